@@ -1,0 +1,5 @@
+pub mod Cases
+pub mod Tests
+pub mod Divisor
+pub mod Clashing
+pub mod Sound

@@ -1,0 +1,12 @@
+pub mod Sizes
+pub mod Tests
+pub mod Bytes
+pub mod Network
+pub mod Divisor
+pub mod Holding
+pub mod Lines
+pub mod Run
+pub mod Search
+pub mod Reading
+pub mod Answers
+pub mod Jobs
