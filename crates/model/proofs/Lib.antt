@@ -3,3 +3,5 @@ pub mod Tests
 pub mod Divisor
 pub mod Clashing
 pub mod Sound
+pub mod Serving
+pub mod Running
