@@ -15,7 +15,7 @@ use Rattle.model.specs.Tests.{_∈_, _and_, any, least, some?}
 use Rattle.model.specs.Network.{Use}
 use Rattle.model.specs.Holding.{Booking, Holds, Clash, FirstClash, Carries, holds?, carries?, meet?, offsetsClash?, clashes?, both?, whatIn, slotOf}
 use Rattle.model.proofs.Tests.{any→, →any, and→, →and, eq→eqb, Least, least-is}
-use Rattle.model.proofs.Divisor.{solve, agree, wrap, apart}
+use Rattle.model.proofs.Divisor.{solve, agree, wrap, apart, common-left, common-right, common-pos}
 
 -- ---- the tests say what they should
 
@@ -182,3 +182,64 @@ first-unique p q {t} {w} {s} {v} f g = (same, le-antisymm (whats f (rw (← same
         pick : Dec (v < w) → w ≤ v
         pick (yes k) = absurd (f .lowest v k (g .left) (g .right))
         pick (no k) = omega arith
+
+-- ---- where the packets meet
+
+pub carries-holds : (b : Booking) {t w : ℕ} → Carries b t w → Holds b t w
+carries-holds b {t} c = record {
+  offset = c .offset;
+  booked = c .booked;
+  by = c .by;
+  used = c .used;
+  same = c .same;
+  slot = ap (λ x. x % b .cycle) (c .slot ∙ omega arith) ∙ add-mul-mod-self-right (c .offset + c .by .after) (c .round) (b .cycle);
+}
+
+-- what is held in slot t is carried in a slot that agrees with it and is late enough
+carried : (b : Booking) {t s w : ℕ} (h : Holds b t w) → s % b .cycle ≡ t % b .cycle → h .offset + h .by .after ≤ s → Carries b s w
+carried b {t} {s} h e l =
+    let k = apart (b .cycle) (h .offset + h .by .after) s l (sym (h .slot) ∙ sym e) in
+    record { offset = h .offset; booked = h .booked; by = h .by; used = h .used; same = h .same; round = k .0; slot = k .1 ∙ omega arith }
+
+-- packets of both circuits meet at a resource that both hold, in that slot or whole common cycles later
+pub record MeetLater (p q : Booking) (t w : ℕ) : Type 0 where
+  pub cycles : ℕ
+  pub left : Carries p (t + cycles * commonCycle (p .cycle) (q .cycle)) w
+  pub right : Carries q (t + cycles * commonCycle (p .cycle) (q .cycle)) w
+
+pub packets-meet : (p q : Booking) → zero < p .cycle → zero < q .cycle → {t w : ℕ} → Holds p t w → Holds q t w → MeetLater p q t w
+packets-meet p q hp hq {t} {w} l r = record { cycles = n; left = carried p l same-left (omega (arith, big)); right = carried q r same-right (omega (arith, big)) }
+  where
+    L : ℕ
+    L = commonCycle (p .cycle) (q .cycle)
+
+    n : ℕ
+    n = l .offset + l .by .after + (r .offset + r .by .after)
+
+    big : n ≤ n * L
+    big = le-mul-of-pos-right n (common-pos (p .cycle) (q .cycle) hp hq)
+
+    same-left : (t + n * L) % p .cycle ≡ t % p .cycle
+    same-left =
+        ap (λ x. x % p .cycle) (omega (arith, ap (λ x. n * x) (common-left (p .cycle) (q .cycle))))
+        ∙ add-mul-mod-self-right t (n * (q .cycle / gcd (p .cycle) (q .cycle))) (p .cycle)
+
+    same-right : (t + n * L) % q .cycle ≡ t % q .cycle
+    same-right =
+        ap (λ x. x % q .cycle) (omega (arith, ap (λ x. n * x) (common-right (p .cycle) (q .cycle))))
+        ∙ add-mul-mod-self-right t (n * (p .cycle / gcd (p .cycle) (q .cycle))) (q .cycle)
+
+pub carries→ : (b : Booking) (t w : ℕ) → T (carries? b t w) → Carries b t w
+unfolding carries?
+carries→ b t w h =
+    let a = any→ _ (b .offsets) h in
+    let u = any→ _ (b .uses) (a .2) in
+    let e = and→ _ _ (u .2) in
+    let f = and→ _ _ (e .1) in
+    carried b (record { offset = a .0; booked = a .1; by = u .0; used = u .1; same = eqb→eq _ _ (e .0); slot = eqb→eq _ _ (f .1) }) refl (leb→le _ _ (f .0))
+
+pub →carries : (b : Booking) (t w : ℕ) → Carries b t w → T (carries? b t w)
+unfolding carries? carries-holds
+→carries b t w c =
+    let h = carries-holds b c in
+    →any _ (c .booked) (→any _ (c .used) (→and _ _ (eq→eqb (c .same)) (→and _ _ (le→leb (c .offset + c .by .after) t (omega (arith, c .slot))) (eq→eqb (h .slot)))))

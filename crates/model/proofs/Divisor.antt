@@ -176,3 +176,26 @@ sub-cong D x y n h e = sym (back x) ∙ add-cong D (x + n) (y + n) (n * pred D) 
   where
     back : (z : ℕ) → (z + n + n * pred D) % D ≡ z % D
     back z = ap (λ w. w % D) (omega (arith, ap (λ d. n * d) (suc-pred-eq-of-pos h))) ∙ add-mul-mod-self-right z n D
+
+-- ---- the common cycle: a multiple of both
+
+module _ (a b : ℕ) where
+  pub common-right : commonCycle a b ≡ a / gcd a b * b
+  unfolding commonCycle
+  common-right = refl
+
+  pub common-left : commonCycle a b ≡ b / gcd a b * a
+  unfolding commonCycle
+  common-left =
+      let g = gcd a b in
+      let x = div-mul-cancel g (gcd-divides-left a b) in
+      let y = div-mul-cancel g (gcd-divides-right a b) in
+      ap (λ z. a / g * z) (sym y) ∙ omega arith ∙ ap (λ z. b / g * z) x
+
+  pub common-pos : zero < a → zero < b → zero < commonCycle a b
+  unfolding commonCycle
+  common-pos ha hb = mul-pos (pos-left (a / gcd a b) (rw (div-mul-cancel (gcd a b) (gcd-divides-left a b)) ha)) hb
+    where
+      pos-left : (x : ℕ) → zero < x * gcd a b → zero < x
+      pos-left zero h = absurd (omega (arith, h))
+      pos-left (suc x) h = zero-lt-suc x

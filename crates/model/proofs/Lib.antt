@@ -5,3 +5,4 @@ pub mod Clashing
 pub mod Sound
 pub mod Serving
 pub mod Running
+pub mod Checking

@@ -196,6 +196,38 @@ module _ {A : Type 0} where
   first-at (suc n) f (suc i) x h none-before e =
       rw (none-before 0 (zero-lt-suc i)) (first-at n (λ i. f (suc i)) i x (le-of-suc-le-suc h) (λ j k. none-before (suc j) (omega arith)) e)
 
+  pub given-some : (b : Bool) (x : A) {y : A} → given b x ≡ some y → T b × (x ≡ y)
+  unfolding given
+  given-some true x e = (tt, cc)
+  given-some false x e = absurd (Option·none-ne-some _ e)
+
+  pub else-some : (f g : Option A) {x : A} → f else g ≡ some x → (f ≡ some x) ⊎ ((f ≡ none) × (g ≡ some x))
+  unfolding _else_
+  else-some none g e = inr (refl, e)
+  else-some (some y) g e = inl e
+
+  -- the first that is there
+  pub record FirstOf (n : ℕ) (f : ℕ → Option A) (x : A) : Type 0 where
+    pub i : ℕ
+    pub within : i < n
+    pub is : f i ≡ some x
+    pub sooner : (j : ℕ) → j < i → f j ≡ none
+
+  pub first-some : (n : ℕ) (f : ℕ → Option A) {x : A} → first n f ≡ some x → FirstOf n f x
+  unfolding first
+  first-some zero f e = absurd (Option·none-ne-some _ e)
+  first-some (suc n) f {x} e = pick (λ e. first-some n (λ i. f (suc i)) e) (else-some _ _ e)
+    where
+      pick : (first n (λ i. f (suc i)) ≡ some x → FirstOf n (λ i. f (suc i)) x) → (f zero ≡ some x) ⊎ ((f zero ≡ none) × (first n (λ i. f (suc i)) ≡ some x)) → FirstOf (suc n) f x
+      pick below (inl e) = record { i = 0; within = zero-lt-suc n; is = e; sooner = λ j h. absurd (not-suc-le-zero h) }
+      pick below (inr e) =
+          let r = below (e .1) in
+          record { i = suc (r .i); within = suc-le-suc (r .within); is = r .is; sooner = sooner (e .0) r }
+        where
+          sooner : f zero ≡ none → (r : FirstOf n (λ i. f (suc i)) x) → (j : ℕ) → j < suc (r .i) → f j ≡ none
+          sooner z r zero h = z
+          sooner z r (suc j) h = r .sooner j (le-of-suc-le-suc h)
+
 -- ---- lists by number
 
 module _ {A : Type 0} where

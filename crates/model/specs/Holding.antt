@@ -1,7 +1,7 @@
 -- What a circuit holds and when, and when two circuits clash: over unbounded slots, and by a test. Assumes nothing: these are definitions.
 use Prim.Native.Nat.{ℕ, zero, suc, _+_, _*_, _%_, _<_}
 use mathlib.Core.Path.{_≡_}
-use mathlib.Core.Logic.{_≢_}
+use mathlib.Core.Logic.{_≢_, _⊎_}
 use mathlib.Core.Bool.{Bool}
 use mathlib.Core.List.{List, [], _∷_}
 use mathlib.Core.Option.{Option}
@@ -96,6 +96,13 @@ booking q assigned c = record { cycle = circuitOf q c .cycle; uses = uses (q .ne
 
 pub record NoClash (q : Request) (assigned : List (List ℕ)) : Type 0 where
   pub apart : (c d : ℕ) → c < length (q .circuits) → d < length (q .circuits) → c ≢ d → Clash (booking q assigned c) (booking q assigned d) → ⊥
+
+-- the first clash of a plan: the first pair in order, by the lower circuit and then the higher, and its first clash
+pub record FirstPair (q : Request) (assigned : List (List ℕ)) (c d t w : ℕ) : Type 0 where
+  pub order : c < d
+  pub listed : d < length (q .circuits)
+  pub first : FirstClash (booking q assigned c) (booking q assigned d) t w
+  pub sooner : (c′ d′ : ℕ) → c′ < d′ → d′ < length (q .circuits) → (c′ < c) ⊎ ((c′ ≡ c) × (d′ < d)) → Clash (booking q assigned c′) (booking q assigned d′) → ⊥
 
 unfoldable pub pairClash : Request → List (List ℕ) → ℕ → ℕ → Option Answer
 pairClash q assigned c d =

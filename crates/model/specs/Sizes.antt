@@ -1,5 +1,5 @@
 -- The sizes of document 01, each once, under a name. Assumes nothing: these are definitions.
-use Prim.Native.Nat.{ℕ, _+_, _*_}
+use Prim.Native.Nat.{ℕ, _+_, _*_, _-_}
 
 abbrev pub routersMost : ℕ
 routersMost = 64
@@ -13,6 +13,10 @@ circuitsMost = 32
 -- the longest cycle of a circuit, and the longest period of a line
 abbrev pub cycleMost : ℕ
 cycleMost = 32
+
+-- the latest slot in which two circuits may first clash
+abbrev pub slotMost : ℕ
+slotMost = (cycleMost - 1) * cycleMost - 1
 
 abbrev pub hopsMost : ℕ
 hopsMost = 16
