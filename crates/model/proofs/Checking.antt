@@ -1,6 +1,6 @@
 -- What the assignment check and the table check answer: nothing exactly where there is no clash and every series is served; and 12 exactly
 -- for the first clash. Assumes nothing.
-use Prim.Native.Nat.{ℕ, zero, suc, _+_, _≤_, _<_}
+use Prim.Native.Nat.{ℕ, zero, suc, _+_, _-_, _≤_, _<_}
 use mathlib.Core.Path.{_≡_, refl, sym, ap, _∙_}
 use mathlib.Core.Logic.{_↔_, _⊎_, inl, inr, _≢_}
 use mathlib.Core.List.{List}
@@ -184,7 +184,7 @@ module _ (q : Request) (sound : SoundRequest q) (assigned : List (List ℕ)) whe
       let cl : Clash (booking q assigned c) (booking q assigned d) = record { slot = t; what = w; left = f .first .left; right = f .first .right } in
       let least = first-clash _ _ (cycle-pos c hc) (cycle-pos d (f .listed)) (uses-small q sound c hc) cl in
       let same = first-unique _ _ (f .first) least .0 in
-      omega (arith, slot-bound _ _ (cycle-pos c hc) (cycle-pos d (f .listed)) (uses-small q sound c hc) 31 (omega arith) (sound .path c hc .short) (sound .path d (f .listed) .short) cl)
+      omega (arith, slot-bound _ _ (cycle-pos c hc) (cycle-pos d (f .listed)) (uses-small q sound c hc) (cycleMost - 1) (omega arith) (sound .path c hc .short) (sound .path d (f .listed) .short) cl)
 
   -- ---- the table check
 

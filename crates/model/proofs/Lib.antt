@@ -6,3 +6,6 @@ pub mod Sound
 pub mod Serving
 pub mod Running
 pub mod Checking
+pub mod Making
+pub mod Written
+pub mod Writes

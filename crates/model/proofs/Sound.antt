@@ -138,13 +138,22 @@ rises-in a e (x ∷ os) r o m = pick (rises-in (suc x) e os (r .2) o) (List·Mem
     pick below (inl q) = let l = r .0 in let h = r .1 in (omega arith, omega arith)
     pick below (inr h) = let k = below h in let l = r .0 in (omega arith, k .1)
 
+pub rises-at : (a e : ℕ) (os : List ℕ) → Rises a e os → (i : ℕ) → i < length os → (a ≤ getD os i 0) × (getD os i 0 < e)
+rises-at a e os r i h = rises-in a e os r _ (member os i h)
+
+-- each is above the one before
+pub rises-on : (a e : ℕ) (os : List ℕ) → Rises a e os → (i : ℕ) → suc i < length os → getD os i 0 < getD os (suc i) 0
+rises-on a e [] r i h = absurd (not-suc-le-zero h)
+rises-on a e (o ∷ os) r zero h = rises-at (suc o) e os (r .2) 0 (le-of-suc-le-suc h) .0
+rises-on a e (o ∷ os) r (suc i) h = rises-on (suc o) e os (r .2) i (le-of-suc-le-suc h)
+
 pub rises-once : (a e : ℕ) (os : List ℕ) → Rises a e os → (i j : ℕ) → i < length os → j < length os → getD os i 0 ≡ getD os j 0 → i ≡ j
 rises-once a e [] r i j hi hj q = absurd (not-suc-le-zero hi)
 rises-once a e (x ∷ os) r zero zero hi hj q = refl
 rises-once a e (x ∷ os) r zero (suc j) hi hj q =
-    let k = rises-in (suc x) e os (r .2) _ (member os j (le-of-suc-le-suc hj)) in absurd (omega arith)
+    let k = rises-at (suc x) e os (r .2) j (le-of-suc-le-suc hj) in absurd (omega arith)
 rises-once a e (x ∷ os) r (suc i) zero hi hj q =
-    let k = rises-in (suc x) e os (r .2) _ (member os i (le-of-suc-le-suc hi)) in absurd (omega arith)
+    let k = rises-at (suc x) e os (r .2) i (le-of-suc-le-suc hi) in absurd (omega arith)
 rises-once a e (x ∷ os) r (suc i) (suc j) hi hj q = ap suc (rises-once (suc x) e os (r .2) i j (le-of-suc-le-suc hi) (le-of-suc-le-suc hj) q)
 
 pub offset-low : {q : Request} {assigned : List (List ℕ)} → SoundOffsets q assigned → (c : ℕ) → c < length (q .circuits) → (a : ℕ) → a ∈ offsetsOf assigned c → a < circuitOf q c .cycle

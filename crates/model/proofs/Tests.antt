@@ -9,7 +9,8 @@ use native.Mathlib.Nat.{le-of-suc-le-suc, not-suc-le-zero, le-refl, le-antisymm,
 use native.Mathlib.Omega.{arith}
 use native.Mathlib.Decide.{decLt}
 use lib.ListN.{length, getD, length-append, List·getD-append}
-use lib.Seq.{getD-append-add}
+use lib.Seq.{getD-append-add, ext-getD}
+use borrow.Author.Tests.{le-ltb}
 use lib.Dec.{T, eqb, eqb-refl, ltb, ltb→lt, lt→ltb}
 use Rattle.model.specs.Tests.{_and_, neg, least, some?, upTo, _∈_, any, joined, given, _else_, first, orElse}
 
@@ -166,6 +167,10 @@ least-none n f = (
     pick t i h u (yes k) = least-is n f .first i k u
     pick t i h u (no k) = neg→ _ t (lt→ltb (least n f) n (omega arith))
 
+-- none passes
+pub some-none : (n : ℕ) (f : ℕ → Bool) → ((j : ℕ) → j < n → f j ≡ false) → some? n f ≡ false
+some-none n f clear = rw (least-end n f (λ j h t. rw (clear j h) at t)) (le-ltb n n (le-refl n))
+
 -- ---- the first of several
 
 module _ {A : Type 0} where
@@ -267,6 +272,12 @@ module _ {A : Type 0} where
       pick below (inl e) = (zero, zero-lt-suc n, e)
       pick below (inr h) = let r = below h in (suc (r .0), suc-le-suc (r .1), r .2)
 
+-- a list by its elements
+pub upTo-back : {A : Type 0} (l : List A) (f : ℕ → A) (d : A) → ((i : ℕ) → i < length l → f i ≡ getD l i d) → upTo (length l) f ≡ l
+upTo-back l f d same =
+    ext-getD d _ l (length-upTo (length l) f)
+    (λ i h. let k : i < length l = omega (arith, length-upTo (length l) f) in getD-upTo (length l) f i d k ∙ same i k)
+
 -- ---- lists one behind the other
 
 module _ {A : Type 0} where
@@ -319,3 +330,47 @@ module _ {A : Type 0} where
           omega (arith, r .0, length-append l (joined ls)),
           ap (λ n. getD (l ++ joined ls) n d) (omega arith) ∙ getD-append-add l (joined ls) (offsetIn ls i + k) d ∙ r .1,
         )
+
+  -- a place of the whole is in one list only
+  pub spot-once : (ls : List (List A)) (i k i′ k′ : ℕ) → i < length ls → i′ < length ls → k < length (getD ls i []) → k′ < length (getD ls i′ [])
+      → offsetIn ls i + k ≡ offsetIn ls i′ + k′ → (i ≡ i′) × (k ≡ k′)
+  unfolding offsetIn
+  spot-once [] i k i′ k′ hi hi′ hk hk′ e = absurd (not-suc-le-zero hi)
+  spot-once (l ∷ ls) zero k zero k′ hi hi′ hk hk′ e = (refl, omega arith)
+  spot-once (l ∷ ls) zero k (suc i′) k′ hi hi′ hk hk′ e = absurd (omega arith)
+  spot-once (l ∷ ls) (suc i) k zero k′ hi hi′ hk hk′ e = absurd (omega arith)
+  spot-once (l ∷ ls) (suc i) k (suc i′) k′ hi hi′ hk hk′ e =
+      let r = spot-once ls i k i′ k′ (le-of-suc-le-suc hi) (le-of-suc-le-suc hi′) hk hk′ (omega arith) in
+      (ap suc (r .0), r .1)
+
+  -- the same where the lists are f 0, f 1, ..
+  abbrev pub offsetUp : ℕ → (ℕ → List A) → ℕ → ℕ
+  offsetUp n f i = offsetIn (upTo n f) i
+
+  module _ (d : A) (n : ℕ) (f : ℕ → List A) where
+    pub record SpotUp (m : ℕ) : Type 0 where
+      pub i : ℕ
+      pub k : ℕ
+      pub row : i < n
+      pub place : k < length (f i)
+      pub is : m ≡ offsetUp n f i + k
+      pub val : getD (joined (upTo n f)) m d ≡ getD (f i) k d
+
+    row-of : (i : ℕ) → i < n → getD (upTo n f) i [] ≡ f i
+    row-of i h = getD-upTo n f i [] h
+
+    pub spot-up : (m : ℕ) → m < length (joined (upTo n f)) → SpotUp m
+    spot-up m h =
+        let s = spot d (upTo n f) m h in
+        let row : s .i < n = rw (length-upTo n f) at (s .row) in
+        record { i = s .i; k = s .k; row = row; place = rw (row-of (s .i) row) at (s .place); is = s .is; val = s .val ∙ ap (λ l. getD l (s .k) d) (row-of (s .i) row) }
+
+    pub spot-up-of : (i k : ℕ) → i < n → k < length (f i)
+        → (offsetUp n f i + k < length (joined (upTo n f))) × (getD (joined (upTo n f)) (offsetUp n f i + k) d ≡ getD (f i) k d)
+    spot-up-of i k hi hk =
+        let r = spot-of d (upTo n f) i k (rw (length-upTo n f) hi) (rw (row-of i hi) hk) in
+        (r .0, r .1 ∙ ap (λ l. getD l k d) (row-of i hi))
+
+    pub spot-up-once : (i k i′ k′ : ℕ) → i < n → i′ < n → k < length (f i) → k′ < length (f i′) → offsetUp n f i + k ≡ offsetUp n f i′ + k′ → (i ≡ i′) × (k ≡ k′)
+    spot-up-once i k i′ k′ hi hi′ hk hk′ e =
+        spot-once (upTo n f) i k i′ k′ (rw (length-upTo n f) hi) (rw (length-upTo n f) hi′) (rw (row-of i hi) hk) (rw (row-of i′ hi′) hk′) e
