@@ -6,6 +6,8 @@ pub mod Sound
 pub mod Serving
 pub mod Running
 pub mod Checking
-pub mod Making
+pub mod Records
+pub mod Readers
 pub mod Written
 pub mod Writes
+pub mod Making

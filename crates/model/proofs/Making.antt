@@ -18,9 +18,10 @@ use Rattle.model.specs.Lines.{Line, lineOf, noLine, Guides, Series, Meet
 use Rattle.model.specs.Run.{IsSeries}
 use Rattle.model.proofs.Tests.{index, member, length-upTo, getD-upTo, offsetUp, spot-up, spot-up-of, spot-up-once}
 use Rattle.model.proofs.Divisor.{sub-cong}
-use Rattle.model.proofs.Sound.{SoundRequest, SoundOffsets, after-first, after-next, port, buffer, →holds-by, hop-small, inport-once, offset-low, rises-once}
+use Rattle.model.proofs.Sound.{SoundPath, SoundRequest, SoundOffsets, after-first, after-next, port, buffer, →holds-by, hop-small, inport-once, offset-low, rises-once}
 use Rattle.model.proofs.Serving.{Served}
 use Rattle.model.proofs.Running.{Accepted}
+use Rattle.model.proofs.Writes.{GoodLine}
 
 -- ---- numbers below m that go one to one into the numbers below k are no more than those
 
@@ -315,3 +316,28 @@ module _ (q : Request) (assigned : List (List ℕ)) where
 
     pub made-few : length (linesFor q assigned) ≤ linesMost
     made-few = pigeonhole (length (linesFor q assigned)) linesMost cell cell-low cell-once
+
+  -- ---- each line is one that the table's reader lets pass
+
+  module _ (sound : SoundRequest q) where
+    line-good : (c o j : ℕ) → In c o j → GoodLine (q .network) (lineFor (seriesAt c o j))
+    unfolding lineFor series send inport
+    line-good c o j h = record {
+      router = sound .owned _ (path .known j (h .on));
+      period = path .cycle;
+      short = path .short;
+      slot = mod-lt _ (path .cycle);
+      inp = inp j (h .on);
+      listed = path .known j (h .on);
+      owned = refl;
+    }
+      where
+        path : SoundPath (q .network) (circuitOf q c)
+        path = sound .path c (h .circuit)
+
+        inp : (j : ℕ) → j < hops (circuitOf q c) → (inport (circuitOf q c) j ≡ local) ⊎ ((inport (circuitOf q c) j < length (q .network .links)) × (toRouter (q .network) (inport (circuitOf q c) j) ≡ fromRouter (q .network) (hop (circuitOf q c) j)))
+        inp zero on = inl refl
+        inp (suc j) on = inr (path .known j (omega arith), path .joined j on)
+
+    pub made-good : (m : ℕ) → m < length (linesFor q assigned) → GoodLine (q .network) (lineOf (linesFor q assigned) m)
+    made-good m h = let w = made-is m h in rw (w .val) (line-good (w .c) (w .o) (w .j) (w .here))

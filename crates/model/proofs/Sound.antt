@@ -1,4 +1,4 @@
--- What the readers make sure of: the hypotheses of the theorems, which proofs/Reads.antt gives for every file without a fault. And what
+-- What the readers make sure of: the hypotheses of the theorems, which proofs/Readers.antt gives for every file without a fault. And what
 -- follows for paths. Assumes nothing.
 use Prim.Native.Nat.{ℕ, zero, suc, pred, _+_, _%_, _≤_, _<_}
 use mathlib.Core.Path.{_≡_, refl, sym, ap, _∙_}

@@ -3,7 +3,7 @@ use Prim.Native.Nat.{ℕ, zero, suc, _+_, _≤_, _<_, zero-le, suc-le-suc}
 use mathlib.Core.Path.{_≡_, refl, sym, ap, _∙_}
 use mathlib.Core.Logic.{_↔_, _⊎_, inl, inr}
 use mathlib.Core.Bool.{Bool, true, false, cond, _||_}
-use mathlib.Core.List.{List, [], _∷_, _++_, List·Memᴰ·head, List·Memᴰ·tail, List·Memᴰ·not-nil, List·Memᴰ·cases-cons, Memᴰ·cast}
+use mathlib.Core.List.{List, [], _∷_, _++_, map, List·Memᴰ·head, List·Memᴰ·tail, List·Memᴰ·not-nil, List·Memᴰ·cases-cons}
 use mathlib.Core.Option.{Option, none, some, Option·none-ne-some}
 use native.Mathlib.Nat.{le-of-suc-le-suc, not-suc-le-zero, le-refl, le-antisymm, lt-irrefl, zero-lt-suc, le-dest, zero-add}
 use native.Mathlib.Omega.{arith}
@@ -11,7 +11,7 @@ use native.Mathlib.Decide.{decLt}
 use lib.ListN.{length, getD, length-append, List·getD-append}
 use lib.Seq.{getD-append-add, ext-getD}
 use borrow.Author.Tests.{le-ltb}
-use lib.Dec.{T, eqb, eqb-refl, ltb, ltb→lt, lt→ltb}
+use lib.Dec.{T, eqb, eqb→eq, eqb-refl, ltb, ltb→lt, lt→ltb}
 use Rattle.model.specs.Tests.{_and_, neg, least, some?, upTo, _∈_, any, joined, given, _else_, first, orElse}
 
 -- ---- true and false
@@ -171,6 +171,23 @@ least-none n f = (
 pub some-none : (n : ℕ) (f : ℕ → Bool) → ((j : ℕ) → j < n → f j ≡ false) → some? n f ≡ false
 some-none n f clear = rw (least-end n f (λ j h t. rw (clear j h) at t)) (le-ltb n n (le-refl n))
 
+-- ---- tests that are false
+
+no-false : (b : Bool) → (T b → ⊥) → b ≡ false
+no-false true f = absurd (f tt)
+no-false false f = refl
+
+pub same : (a b : ℕ) → neg (eqb a b) ≡ false → a ≡ b
+same a b e = eqb→eq a b (neg-neg→ _ (neg-eq _ e))
+
+pub or-false : (a b : Bool) → (a || b) ≡ false → (a ≡ false) × (b ≡ false)
+or-false true b e = absurd (eq→T (sym e))
+or-false false b e = (refl, e)
+
+-- none below n passes
+pub some-false : (n : ℕ) (f : ℕ → Bool) → some? n f ≡ false → (i : ℕ) → i < n → f i ≡ false
+some-false n f e i h = no-false (f i) (least-none n f .0 (neg-eq _ e) i h)
+
 -- ---- the first of several
 
 module _ {A : Type 0} where
@@ -271,6 +288,11 @@ module _ {A : Type 0} where
       pick : (x ∈ upTo n (λ i. f (suc i)) → (j : ℕ) × (j < n) × (x ≡ f (suc j))) → (x ≡ f zero) ⊎ (x ∈ upTo n (λ i. f (suc i))) → (j : ℕ) × (j < suc n) × (x ≡ f j)
       pick below (inl e) = (zero, zero-lt-suc n, e)
       pick below (inr h) = let r = below h in (suc (r .0), suc-le-suc (r .1), r .2)
+
+pub getD-map : {A B : Type 0} (f : A → B) (l : List A) (i : ℕ) (d : A) (e : B) → i < length l → getD (map f l) i e ≡ f (getD l i d)
+getD-map f [] i d e h = absurd (not-suc-le-zero h)
+getD-map f (x ∷ l) zero d e h = refl
+getD-map f (x ∷ l) (suc i) d e h = getD-map f l i d e (le-of-suc-le-suc h)
 
 -- a list by its elements
 pub upTo-back : {A : Type 0} (l : List A) (f : ℕ → A) (d : A) → ((i : ℕ) → i < length l → f i ≡ getD l i d) → upTo (length l) f ≡ l

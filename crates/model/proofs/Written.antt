@@ -10,7 +10,7 @@ use native.Mathlib.Omega.{arith}
 use lib.ListN.{length, getD, length-append, List·getD-append}
 use lib.Seq.{append-snoc, getD-append-add}
 use borrow.Author.Tests.{le-ltb, eq-eqb, ne-eqb}
-use Rattle.model.specs.Sizes.{headSize, endKind}
+use Rattle.model.specs.Sizes.{headSize, endKind, wordEnd}
 use Rattle.model.specs.Tests.{neg, joined, sum}
 use Rattle.model.specs.Bytes.{byteAt, wordAt, lengthAt, kindAt, recordOf}
 use Rattle.model.specs.Reading.{have, endStep, stepAt, Walked, complete, walk, starts}
@@ -22,12 +22,8 @@ use Rattle.model.specs.declared.Step.the-variants.{Next, End}
 
 -- ---- a record in a file
 
--- the numbers that two bytes hold are below this
-abbrev pub words : ℕ
-words = 65536
-
--- what they say of a number that was written into them
-pub word-back : (n : ℕ) → n < words → n % 256 + 256 * (n / 256 % 256) ≡ n
+-- what two bytes say of a number that was written into them
+pub word-back : (n : ℕ) → n < wordEnd → n % 256 + 256 * (n / 256 % 256) ≡ n
 word-back n h = omega arith
 
 length-record : (kind : ℕ) (body : List ℕ) → length (recordOf kind body) ≡ headSize + length body
@@ -54,11 +50,11 @@ module _ {s : List ℕ} {p kind : ℕ} {body : List ℕ} (r : RecordAt s p kind 
   word-in i = rw (add-assoc, byte-in i, byte-in (i + 1))
 
   -- its length, its kind, and that it fits in the file
-  pub length-in : length body < words → lengthAt s p ≡ length body
+  pub length-in : length body < wordEnd → lengthAt s p ≡ length body
   unfolding recordOf
   length-in h = ap (lengthAt s) (sym (add-zero p)) ∙ word-in 0 ∙ word-back (length body) h
 
-  pub kind-in : kind < words → kindAt s p ≡ kind
+  pub kind-in : kind < wordEnd → kindAt s p ≡ kind
   unfolding recordOf
   kind-in h = word-in 2 ∙ word-back kind h
 
@@ -67,7 +63,7 @@ module _ {s : List ℕ} {p kind : ℕ} {body : List ℕ} (r : RecordAt s p kind 
   room-in = ap length (r .file) ∙ simp length-append (omega (arith, r .start))
 
   -- the step over it, where it has no fault
-  pub next-in : length body < words → kind < words → kind ≢ endKind → (early : Bool) {v : Verdict} → v ≡ Fine → stepAt kind early v s p ≡ Next (p + headSize + length body)
+  pub next-in : length body < wordEnd → kind < wordEnd → kind ≢ endKind → (early : Bool) {v : Verdict} → v ≡ Fine → stepAt kind early v s p ≡ Next (p + headSize + length body)
   unfolding stepAt
   next-in short low other early e =
       rw (le-ltb (have s p) headSize (omega (arith, room-in)), kind-in low, ne-eqb kind endKind other, eq-eqb kind kind refl, e, length-in short)
@@ -101,7 +97,7 @@ module _ {A : Type 0} (kind : ℕ) (body : A → List ℕ) where
   module _ (s : List ℕ) (verdict : ℕ → ℕ → Verdict) (read : ℕ → A) where
     -- wherever the record of x stands as record number n, it is let pass, and is read as x
     pub record Good (n : ℕ) (x : A) : Type 0 where
-      pub short : length (body x) < words
+      pub short : length (body x) < wordEnd
       pub fine : (p : ℕ) → RecordAt s p kind (body x) → verdict n p ≡ Fine
       pub back : (p : ℕ) → RecordAt s p kind (body x) → read p ≡ x
 
@@ -111,7 +107,7 @@ module _ {A : Type 0} (kind : ℕ) (body : A → List ℕ) where
       whole : w ≡ complete (found ++ at)
       same : map read at ≡ xs
 
-    module _ (early : ℕ → Bool) (d : A) (low : kind < words) (other : kind ≢ endKind) where
+    module _ (early : ℕ → Bool) (d : A) (low : kind < wordEnd) (other : kind ≢ endKind) where
       abbrev step : ℕ → ℕ → Step
       step n p = stepAt kind (early n) (verdict n p) s p
 

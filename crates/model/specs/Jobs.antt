@@ -1,6 +1,7 @@
 -- The five jobs: for each public call the answer, and the output area afterwards, as a function of the input bytes, the budget and the
 -- output area before. Assumes nothing: these are definitions.
 use Prim.Native.Nat.{ℕ, _+_}
+use mathlib.Core.Path.{_≡_}
 use mathlib.Core.List.{List, [], _∷_, _++_, map}
 use mathlib.Core.Option.{Option, none, some}
 use lib.ListN.{length}
@@ -41,18 +42,18 @@ pub record Result : Type 0 where
   pub answer : Answer
   pub area : List ℕ
 
--- with any number but 0, all output bytes keep their old values
-abbrev pub refused : List ℕ → Answer → Result
-refused old a = record { answer = a; area = old }
+-- nothing is written: with any number but 0, all output bytes keep their old values
+abbrev pub keeps : List ℕ → Answer → Result
+keeps old a = record { answer = a; area = old }
 
--- with 0, bytes behind the written length do
-abbrev pub wrote : List ℕ → Answer → List ℕ → Result
-wrote old a bytes = record { answer = a; area = over bytes old }
+-- something is written: with 0, the bytes behind it keep their old values
+abbrev pub writes : List ℕ → Answer → List ℕ → Result
+writes old a bytes = record { answer = a; area = over bytes old }
 
 -- the refusal, if there is one, and else the result
 abbrev pub unless : Option Answer → List ℕ → Result → Result
 unless none old r = r
-unless (some a) old r = refused old a
+unless (some a) old r = keeps old a
 
 -- ---- the tests that the jobs share, each 'none' where it finds nothing
 
@@ -74,9 +75,9 @@ unfoldable pub readRequest : List ℕ → Answer
 readRequest req = orElse (requestFault req) Done
 
 abbrev pub settled : ℕ → List ℕ → Reply → Result
-settled budget old (slots visits assigned) = wrote old (Allocated visits (length (assignmentBytes assigned))) (assignmentBytes assigned)
-settled budget old (full visits) = refused old (NoRoom visits)
-settled budget old unfinished = refused old (Unfinished budget)
+settled budget old (slots visits assigned) = writes old (Allocated visits (length (assignmentBytes assigned))) (assignmentBytes assigned)
+settled budget old (full visits) = keeps old (NoRoom visits)
+settled budget old unfinished = keeps old (Unfinished budget)
 
 unfoldable pub allocate : List ℕ → ℕ → List ℕ → Result
 allocate req budget old =
@@ -93,7 +94,7 @@ makeTables req asg old =
     let q = request req in
     let bytes = tableBytes (linesFor q (assignment q asg)) in
     unless (requestFault req else assignmentFault q asg else clashFault q (assignment q asg) else shortFault (length bytes) old) old
-    (wrote old (Made (length bytes)) bytes)
+    (writes old (Made (length bytes)) bytes)
 
 unfoldable pub checkTables : List ℕ → List ℕ → List ℕ → Answer
 checkTables req asg tab =
@@ -103,3 +104,26 @@ checkTables req asg tab =
     else clashFault q (assignment q asg)
     else linesFault q (assignment q asg) (table (q .network) tab))
     Done
+
+-- ---- the public calls
+
+-- a call with its input bytes, its budget and its output area before it
+pub data Call : Type 0 where
+  read : (req : List ℕ) → Call
+  allot : (req : List ℕ) (budget : ℕ) (old : List ℕ) → Call
+  check : (req asg : List ℕ) → Call
+  make : (req asg old : List ℕ) → Call
+  verify : (req asg tab : List ℕ) → Call
+
+-- its answer, and its output area after it: a call without one has none
+abbrev pub resultOf : Call → Result
+resultOf (read req) = keeps [] (readRequest req)
+resultOf (allot req budget old) = allocate req budget old
+resultOf (check req asg) = keeps [] (checkAssignment req asg)
+resultOf (make req asg old) = makeTables req asg old
+resultOf (verify req asg tab) = keeps [] (checkTables req asg tab)
+
+-- what a call's contract says of its answer r and of its output area after it
+pub record Contract (call : Call) (r : Answer) (out : List ℕ) : Type 0 where
+  pub answer : r ≡ resultOf call .answer
+  pub area : out ≡ resultOf call .area

@@ -76,3 +76,10 @@ tableFile = 3
 -- the detail of a refusal that has no line to name
 abbrev pub nowhere : ℕ
 nowhere = 65535
+
+-- a number of two bytes, and a detail, which has four, are below these
+abbrev pub wordEnd : ℕ
+wordEnd = 65536
+
+abbrev pub detailEnd : ℕ
+detailEnd = 4294967296
