@@ -11,3 +11,8 @@ pub mod Readers
 pub mod Written
 pub mod Writes
 pub mod Making
+pub mod Rows
+pub mod Assigning
+pub mod Searching
+pub mod Agreeing
+pub mod Files
