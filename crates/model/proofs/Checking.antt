@@ -19,7 +19,7 @@ use Rattle.model.specs.Run.{IsSeries}
 use Rattle.model.specs.declared.Answer.{Answer}
 use Rattle.model.specs.declared.Answer.the-variants.{Clash as ClashAnswer}
 use Rattle.model.proofs.Tests.{and→, →and, neg→, →neg, given-none, given-some, else-none, first-none, FirstOf, first-some, index, member}
-use Rattle.model.proofs.Clashing.{clashes→, →clashes, first-clash, first-unique, slot-bound}
+use Rattle.model.proofs.Clashing.{turned, clashes→, →clashes, first-clash, first-unique, slot-bound}
 use Rattle.model.proofs.Sound.{SoundRequest, SoundTable, uses-small}
 use Rattle.model.proofs.Serving.{Served, series-none}
 use Rattle.model.proofs.Running.{Accepted}
@@ -31,9 +31,6 @@ module _ (q : Request) (sound : SoundRequest q) (assigned : List (List ℕ)) whe
   cycle-pos : (c : ℕ) → c < n → zero < booking q assigned c .cycle
   unfolding booking
   cycle-pos c h = sound .path c h .cycle
-
-  turned : {x y : Booking} → Clash x y → Clash y x
-  turned c = record { slot = c .slot; what = c .what; left = c .right; right = c .left }
 
   pair-clash : (c d : ℕ) → c < n → d < n → c < d → Clash (booking q assigned c) (booking q assigned d) → pairClash q assigned c d ≡ none → ⊥
   unfolding pairClash

@@ -74,6 +74,10 @@ clash-offsets p q = (
   λ o. →any _ (o .left) (→any _ (o .right) (o .clash)),
 )
 
+-- a clash is one of either circuit with the other
+pub turned : {p q : Booking} → Clash p q → Clash q p
+turned c = record { slot = c .slot; what = c .what; left = c .right; right = c .left }
+
 -- ---- the first clash
 
 -- a slot may be put at another with the same remainder

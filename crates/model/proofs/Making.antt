@@ -199,9 +199,9 @@ module _ (q : Request) (assigned : List (List ℕ)) where
     same-comer c a (suc j) d b zero t x y er ei ec ed = absurd (omega (arith, hop-small q sound c (x .listed) j (omega (arith, x .on))))
     same-comer c a (suc j) d b (suc i) t x y er ei ec ed =
         let r = same-holder c a j d b i before
-            (record { listed = x .listed; booked = x .booked; on = omega (arith, x .on) })
-            (record { listed = y .listed; booked = y .booked; on = omega (arith, y .on) })
-            ei (earlier c a j (D .cycle) (cycle-of c (x .listed)) (omega arith) ec) (earlier d b i (C .cycle) (cycle-of d (y .listed)) refl ed) in
+        (record { listed = x .listed; booked = x .booked; on = omega (arith, x .on) })
+        (record { listed = y .listed; booked = y .booked; on = omega (arith, y .on) })
+        ei (earlier c a j (D .cycle) (cycle-of c (x .listed)) (omega arith) ec) (earlier d b i (C .cycle) (cycle-of d (y .listed)) refl ed) in
         (r .0, r .1, ap suc (r .2))
       where
         C : Circuit
@@ -232,12 +232,15 @@ module _ (q : Request) (assigned : List (List ℕ)) where
         let a = offsetOf assigned c o in
         let b = offsetOf assigned d e in
         let t = same-comer c a j d b i (a + after (q .network) C j + m .k * C .cycle)
-            (record { listed = x .circuit; booked = member (offsetsOf assigned c) o (x .offset); on = x .on })
-            (record { listed = y .circuit; booked = member (offsetsOf assigned d) e (y .offset); on = y .on })
-            (sym (m .guides .router)) (sym (m .guides .inp))
-            (add-mul-mod-self-right (a + after (q .network) C j) (m .k) (C .cycle)) (m .guides .slot) in
-        (t .0, rises-once 0 (circuitOf q d .cycle) (offsetsOf assigned d) (offsets .suits d (y .circuit) .rises) o e (rw (t .0) at (x .offset)) (y .offset)
-            (ap (λ z. offsetOf assigned z o) (sym (t .0)) ∙ t .1), t .2)
+        (record { listed = x .circuit; booked = member (offsetsOf assigned c) o (x .offset); on = x .on })
+        (record { listed = y .circuit; booked = member (offsetsOf assigned d) e (y .offset); on = y .on })
+        (sym (m .guides .router)) (sym (m .guides .inp))
+        (add-mul-mod-self-right (a + after (q .network) C j) (m .k) (C .cycle)) (m .guides .slot) in (
+          t .0,
+          rises-once 0 (circuitOf q d .cycle) (offsetsOf assigned d) (offsets .suits d (y .circuit) .rises) o e (rw (t .0) at (x .offset)) (y .offset)
+              (ap (λ z. offsetOf assigned z o) (sym (t .0)) ∙ t .1),
+          t .2,
+        )
 
     place-same : (c d o e j i : ℕ) → c ≡ d → o ≡ e → j ≡ i → place c o j ≡ place d e i
     place-same c d o e j i p r s = cc
@@ -298,13 +301,13 @@ module _ (q : Request) (assigned : List (List ℕ)) where
         let same-slot : lineOf (linesFor q assigned) m .slot ≡ lineOf (linesFor q assigned) m′ .slot = omega (arith, x .short, y .short) in
         let same-out : lineOf (linesFor q assigned) m .out ≡ lineOf (linesFor q assigned) m′ .out = omega (arith, x .short, y .short) in
         let t = same-holder (w .c) (offsetOf assigned (w .c) (w .o)) (w .j) (v .c) (offsetOf assigned (v .c) (v .o)) (v .j) (lineOf (linesFor q assigned) m .slot)
-            (record { listed = w .here .circuit; booked = member (offsetsOf assigned (w .c)) (w .o) (w .here .offset); on = w .here .on })
-            (record { listed = v .here .circuit; booked = member (offsetsOf assigned (v .c)) (v .o) (v .here .offset); on = v .here .on })
-            (sym (x .out) ∙ same-out ∙ y .out)
-            (mod-eq-of-lt (x .low) ∙ x .slot)
-            (ap (λ z. z % circuitOf q (v .c) .cycle) same-slot ∙ mod-eq-of-lt (y .low) ∙ y .slot) in
+        (record { listed = w .here .circuit; booked = member (offsetsOf assigned (w .c)) (w .o) (w .here .offset); on = w .here .on })
+        (record { listed = v .here .circuit; booked = member (offsetsOf assigned (v .c)) (v .o) (v .here .offset); on = v .here .on })
+        (sym (x .out) ∙ same-out ∙ y .out)
+        (mod-eq-of-lt (x .low) ∙ x .slot)
+        (ap (λ z. z % circuitOf q (v .c) .cycle) same-slot ∙ mod-eq-of-lt (y .low) ∙ y .slot) in
         let oe = rises-once 0 (circuitOf q (v .c) .cycle) (offsetsOf assigned (v .c)) (offsets .suits (v .c) (v .here .circuit) .rises) (w .o) (v .o)
-            (rw (t .0) at (w .here .offset)) (v .here .offset) (ap (λ z. offsetOf assigned z (w .o)) (sym (t .0)) ∙ t .1) in
+        (rw (t .0) at (w .here .offset)) (v .here .offset) (ap (λ z. offsetOf assigned z (w .o)) (sym (t .0)) ∙ t .1) in
         w .is ∙ place-same (w .c) (v .c) (w .o) (v .o) (w .j) (v .j) (t .0) oe (t .2) ∙ sym (v .is)
 
     cell-low : (m : ℕ) → m < length (linesFor q assigned) → cell m < linesMost

@@ -9,17 +9,14 @@ use native.Mathlib.Decide.{decLt}
 use lib.ListN.{length}
 use borrow.Author.Tests.{le-leb, lt-leb}
 use Rattle.model.specs.Network.{Request}
-use Rattle.model.specs.Holding.{Booking, Clash, booking, offsetsClash?}
+use Rattle.model.specs.Holding.{Clash, booking, offsetsClash?}
 use Rattle.model.specs.Search.{Walk, found, noRoom, visits, Reply, slots, full, unfinished, reply, clashOf, whole, Fits, rowOf, Sooner}
-use Rattle.model.proofs.Clashing.{OffsetClash, clash-offsets, theorem2}
+use Rattle.model.proofs.Clashing.{turned, OffsetClash, clash-offsets, theorem2}
 use Rattle.model.proofs.Sound.{SoundRequest}
 use Rattle.model.proofs.Rows.{Leads, Answers, finds, fails, CircuitsTo, answers-search}
 use Rattle.model.proofs.Assigning.{Valid, row-valid, valid-row}
 
 -- ---- what fits is what a row of allowed choices leads to
-
-clash-back : {p q : Booking} → Clash p q → Clash q p
-clash-back c = record { slot = c .slot; what = c .what; left = c .right; right = c .left }
 
 -- the rows of allowed choices
 abbrev Row : Request → Leads
@@ -47,7 +44,7 @@ module _ (q : Request) (sound : SoundRequest q) where
 
       either : (c d : ℕ) → c < length (q .circuits) → d < length (q .circuits) → c ≢ d → Clash (booking q assigned c) (booking q assigned d) → Dec (d < c) → ⊥
       either c d h k n x (yes l) = lower c d h l x
-      either c d h k n x (no l) = lower d c k (omega arith) (clash-back x)
+      either c d h k n x (no l) = lower d c k (omega arith) (turned x)
 
   fits-valid : (assigned : List (List ℕ)) → Fits q assigned → Valid (clashOf q) (q .circuits) assigned
   unfolding clashOf booking offsetsClash?

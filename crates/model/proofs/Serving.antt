@@ -75,19 +75,21 @@ module _ (l : Line) (s : Series) (hl : l .slot < l .period) (hs : zero < s .cycl
 
   pub serves→ : T (serves? l s) → Serves l s
   unfolding serves?
-  serves→ h = record { guides = λ k.
-      let r = and→ _ _ h in
-      let i = and→ _ _ (r .1) in
-      let d = and→ _ _ (i .1) in
-      let q = s .cycle / l .period in
-      let z : s .cycle % l .period ≡ 0 = eqb→eq _ _ (d .0) in
-      let c : s .cycle ≡ q * l .period = omega (arith, mod-add-div' (s .cycle) (l .period)) in
-      let whole : s .start + k * s .cycle ≡ s .start + k * q * l .period = omega (arith, ap (λ x. k * x) c) in
-      record {
-        router = eqb→eq _ _ (r .0);
-        inp = eqb→eq _ _ (i .0);
-        slot = ap (λ x. x % l .period) whole ∙ add-mul-mod-self-right (s .start) (k * q) (l .period) ∙ eqb→eq _ _ (d .1);
-      } }
+  serves→ h = record {
+    guides = λ k.
+        let r = and→ _ _ h in
+        let i = and→ _ _ (r .1) in
+        let d = and→ _ _ (i .1) in
+        let q = s .cycle / l .period in
+        let z : s .cycle % l .period ≡ 0 = eqb→eq _ _ (d .0) in
+        let c : s .cycle ≡ q * l .period = omega (arith, mod-add-div' (s .cycle) (l .period)) in
+        let whole : s .start + k * s .cycle ≡ s .start + k * q * l .period = omega (arith, ap (λ x. k * x) c) in
+        record {
+          router = eqb→eq _ _ (r .0);
+          inp = eqb→eq _ _ (i .0);
+          slot = ap (λ x. x % l .period) whole ∙ add-mul-mod-self-right (s .start) (k * q) (l .period) ∙ eqb→eq _ _ (d .1);
+        };
+  }
 
 -- ---- of the table's lines one meets the series; it serves it whole and leads to the right buffer
 

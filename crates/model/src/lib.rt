@@ -31,18 +31,35 @@ pub enum Step {
 // What a job answers.
 pub enum Answer {
     Done,
-    Made { bytes: u32 },
-    Allocated { visits: u32, bytes: u32 },
-    Damaged { file: u32, fault: Fault, byte: u32 },
-    NoRoom { visits: u32 },
-    Unfinished { visits: u32 },
+    Made {
+        bytes: u32,
+    },
+    Allocated {
+        visits: u32,
+        bytes: u32,
+    },
+    Damaged {
+        file: u32,
+        fault: Fault,
+        byte: u32,
+    },
+    NoRoom {
+        visits: u32,
+    },
+    Unfinished {
+        visits: u32,
+    },
     Clash {
         lower: u32,
         higher: u32,
         slot: u32,
         what: u32,
     },
-    Unserved { circuit: u32, offset: u32, hop: u32 },
+    Unserved {
+        circuit: u32,
+        offset: u32,
+        hop: u32,
+    },
     Partly {
         circuit: u32,
         offset: u32,
@@ -61,5 +78,7 @@ pub enum Answer {
         hop: u32,
         line: u32,
     },
-    Short { bytes: u32 },
+    Short {
+        bytes: u32,
+    },
 }
