@@ -318,6 +318,10 @@ module _ {A : Type 0} where
       pub is : m ≡ offsetIn ls i + k
       pub val : getD (joined ls) m d ≡ getD (getD ls i []) k d
 
+    -- behind the first list come the others
+    beyond : (l : List A) (ls : List (List A)) (m k : ℕ) → m ≡ length l + k → getD (l ++ joined ls) m d ≡ getD (joined ls) k d
+    beyond l ls m k e = ap (λ n. getD (l ++ joined ls) n d) e ∙ getD-append-add l (joined ls) k d
+
     -- each place of the whole is a place in one list ..
     pub spot : (ls : List (List A)) (m : ℕ) → m < length (joined ls) → Spot ls m
     unfolding joined offsetIn
@@ -335,7 +339,7 @@ module _ {A : Type 0} where
               row = suc-le-suc (r .row);
               place = r .place;
               is = omega (arith, c .1, r .is);
-              val = ap (λ n. getD (l ++ joined ls) n d) (sym (c .1)) ∙ getD-append-add l (joined ls) (c .0) d ∙ r .val;
+              val = beyond l ls m (c .0) (sym (c .1)) ∙ r .val;
             }
 
     -- .. and each place in a list is one of the whole
@@ -350,7 +354,7 @@ module _ {A : Type 0} where
     spot-of (l ∷ ls) (suc i) k hi hk =
         let r = spot-of ls i k (le-of-suc-le-suc hi) hk in (
           omega (arith, r .0, length-append l (joined ls)),
-          ap (λ n. getD (l ++ joined ls) n d) (omega arith) ∙ getD-append-add l (joined ls) (offsetIn ls i + k) d ∙ r .1,
+          beyond l ls (length l + offsetIn ls i + k) (offsetIn ls i + k) (omega arith) ∙ r .1,
         )
 
   -- a place of the whole is in one list only
