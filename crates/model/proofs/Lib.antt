@@ -11,8 +11,13 @@ pub mod Readers
 pub mod Written
 pub mod Writes
 pub mod Making
+pub mod Refusing
 pub mod Rows
 pub mod Assigning
 pub mod Searching
 pub mod Agreeing
 pub mod Files
+pub mod Checks
+pub mod Makes
+pub mod Allots
+pub mod OneAnswer
