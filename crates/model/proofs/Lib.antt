@@ -6,6 +6,7 @@ pub mod Sound
 pub mod Serving
 pub mod Running
 pub mod Checking
+pub mod Telling
 pub mod Records
 pub mod Readers
 pub mod Written

@@ -12,7 +12,7 @@ use lib.ListN.{length, getD, length-append, List·getD-append}
 use lib.Seq.{getD-append-add, ext-getD}
 use borrow.Author.Tests.{le-ltb}
 use lib.Dec.{T, eqb, eqb→eq, eqb-refl, ltb, ltb→lt, lt→ltb}
-use Rattle.model.specs.Tests.{_and_, neg, least, some?, upTo, _∈_, any, joined, given, _else_, first, orElse}
+use Rattle.model.specs.Tests.{_and_, neg, least, some?, upTo, _∈_, any, joined, given, _else_, first}
 
 -- ---- true and false
 
@@ -328,19 +328,21 @@ module _ {A : Type 0} where
     spot [] m h = absurd (not-suc-le-zero h)
     spot (l ∷ ls) m h = pick (spot ls) (decLt m (length l))
       where
+        later : (j : ℕ) → length l + j ≡ m → Spot ls j → Spot (l ∷ ls) m
+        later j e r = record {
+          i = suc (r .i);
+          k = r .k;
+          row = suc-le-suc (r .row);
+          place = r .place;
+          is = omega (arith, r .is);
+          val = beyond l ls m j (sym e) ∙ r .val;
+        }
+
         pick : ((m : ℕ) → m < length (joined ls) → Spot ls m) → Dec (m < length l) → Spot (l ∷ ls) m
         pick below (yes k) = record { i = 0; k = m; row = zero-lt-suc _; place = k; is = omega arith; val = List·getD-append l (joined ls) d m k }
         pick below (no k) =
             let c = le-dest {n = length l} {m = m} (omega arith) in
-            let r = below (c .0) (omega (arith, c .1, length-append l (joined ls))) in
-            record {
-              i = suc (r .i);
-              k = r .k;
-              row = suc-le-suc (r .row);
-              place = r .place;
-              is = omega (arith, c .1, r .is);
-              val = beyond l ls m (c .0) (sym (c .1)) ∙ r .val;
-            }
+            later (c .0) (c .1) (below (c .0) (omega (arith, c .1, length-append l (joined ls))))
 
     -- .. and each place in a list is one of the whole
     pub spot-of : (ls : List (List A)) (i k : ℕ) → i < length ls → k < length (getD ls i [])

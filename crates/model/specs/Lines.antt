@@ -1,15 +1,16 @@
 -- Lines of a router's table, the series of packets that they serve, the lines that slots need, and the faults of other lines.
 -- Assumes nothing: these are definitions.
-use Prim.Native.Nat.{ℕ, zero, suc, _+_, _*_, _%_, _<_}
+use Prim.Native.Nat.{ℕ, _+_, _*_, _%_, _<_}
 use mathlib.Core.Path.{_≡_}
+use mathlib.Core.Logic.{_≢_}
 use mathlib.Core.Bool.{Bool}
-use mathlib.Core.List.{List, [], _∷_}
+use mathlib.Core.List.{List}
 use mathlib.Core.Option.{Option}
 use lib.ListN.{length, getD}
 use lib.Dec.{eqb, ltb}
 use Rattle.model.specs.Divisor.{gcd}
 use Rattle.model.specs.Tests.{_and_, neg, least, upTo, joined, given, _else_, first}
-use Rattle.model.specs.Network.{Request, Send, send, circuitOf, hops}
+use Rattle.model.specs.Network.{Request, send, circuitOf, hops}
 use Rattle.model.specs.Holding.{offsetsOf}
 use Rattle.model.specs.declared.Answer.{Answer}
 use Rattle.model.specs.declared.Answer.the-variants.{Unserved, Partly, Twice, Astray}
@@ -83,7 +84,7 @@ linesFor q assigned =
     joined (upTo (length (offsetsOf assigned c)) (λ o.
     upTo (hops (circuitOf q c)) (λ j. lineFor (series q c (offsetOf assigned c o) j))))))
 
--- ---- the faults of a table
+-- ---- the lines of a table, by number
 
 -- line number m: two equal lines at two places are two lines
 abbrev pub noLine : Line
@@ -91,6 +92,38 @@ noLine = record { router = 0; period = 1; slot = 0; inp = 0; out = 0 }
 
 abbrev pub lineOf : List Line → ℕ → Line
 lineOf table m = getD table m noLine
+
+-- ---- what the faults of a table mean, of a series
+
+-- 13: no line meets it
+pub record Unmet (table : List Line) (s : Series) : Type 0 where
+  pub misses : (m : ℕ) → m < length table → Meets (lineOf table m) s → ⊥
+
+-- 14: line m is the first that meets it without serving it whole
+pub record PartMet (table : List Line) (s : Series) (m : ℕ) : Type 0 where
+  pub listed : m < length table
+  pub meets : Meets (lineOf table m) s
+  pub part : Serves (lineOf table m) s → ⊥
+  pub sooner : (k : ℕ) → k < m → Meets (lineOf table k) s → Serves (lineOf table k) s
+
+-- 15: each line that meets it serves it whole, and line m is the second of them, behind line n
+pub record TwiceMet (table : List Line) (s : Series) (m : ℕ) : Type 0 where
+  pub whole : (k : ℕ) → k < length table → Meets (lineOf table k) s → Serves (lineOf table k) s
+  pub n : ℕ
+  pub order : n < m
+  pub listed : m < length table
+  pub one : Meets (lineOf table n) s
+  pub two : Meets (lineOf table m) s
+  pub only : (k : ℕ) → k < m → Meets (lineOf table k) s → k ≡ n
+
+-- 16: line m alone meets it, and serves it whole, but leads elsewhere
+pub record LedAstray (table : List Line) (s : Series) (m : ℕ) : Type 0 where
+  pub listed : m < length table
+  pub serves : Serves (lineOf table m) s
+  pub only : (k : ℕ) → k < length table → Meets (lineOf table k) s → k ≡ m
+  pub stray : lineOf table m .out ≢ s .out
+
+-- ---- and how they are found
 
 -- the first line that meets the series; the first that meets it without serving it whole; the second that meets it.
 -- The number of lines where there is none

@@ -1,9 +1,9 @@
 -- What the bytes of a file say: the tests of each record in the order of document 01, the walk over the records, and what a file without a
 -- fault stands for. Assumes nothing: these are definitions.
 use Prim.Native.Nat.{ℕ, zero, suc, _+_, _*_, _-_, _%_}
-use mathlib.Core.Bool.{Bool, true, false, cond, _||_}
+use mathlib.Core.Bool.{Bool, false, cond, _||_}
 use mathlib.Core.List.{List, [], _∷_, _++_, map}
-use lib.ListN.{length, getD}
+use lib.ListN.{length}
 use lib.Dec.{ltb, leb, eqb}
 use Rattle.model.specs.Sizes.{routersMost, buffersMost, circuitsMost, cycleMost, hopsMost, linesMost, local, headSize, networkKind, circuitKind, offsetsKind, lineKind, endKind, lineSize}
 use Rattle.model.specs.Tests.{_and_, neg, some?, upTo}
