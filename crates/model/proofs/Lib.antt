@@ -22,3 +22,4 @@ pub mod Checks
 pub mod Makes
 pub mod Allots
 pub mod OneAnswer
+pub mod Details

@@ -1,4 +1,5 @@
--- A file without a fault stands for a sound request, sound offsets or a sound table; and the byte of a refusal fits 32 bits. Assumes nothing.
+-- A file without a fault stands for a sound request, sound offsets or a sound table; the byte of a refusal fits 32 bits; and the walk over a
+-- file never stops at its own bound. Assumes nothing.
 use Prim.Native.Nat.{ℕ, zero, suc, _+_, _*_, _≤_, _<_, suc-le-suc}
 use mathlib.Core.Path.{_≡_, refl, sym, ap, _∙_}
 use mathlib.Core.Bool.{Bool, false}
@@ -16,7 +17,7 @@ use Rattle.model.specs.Bytes.{lengthAt, kindAt, behind}
 use Rattle.model.specs.Network.{Network, Request, Link, noLink, noCircuit, linkOf, circuitOf, fromRouter, toRouter, hops, hop}
 use Rattle.model.specs.Lines.{noLine}
 use Rattle.model.specs.Search.{Rises, Suits}
-use Rattle.model.specs.Reading.{have, onward, goOn, walk, Walked, stopped, starts, routersOf, buffersOf, fromOf, toOf, linkAt, badLink, networkRows, networkVerdict, cycleAt, demandAt, hopsAt, hopAt, badHop, repeated, gap, brokenAt, circuitRows, circuitBodyRows, circuitVerdict, requestStep, requestWalk, circuitAt, request, offsetAt, badOffset, offsetsRows, offsetsVerdict, assignmentWalk, offsetsAt, assignment, routerAt, periodAt, slotAt, lineSpareAt, inAt, outAt, lineRows, lineVerdict, tableWalk, lineAt, table}
+use Rattle.model.specs.Reading.{have, onward, goOn, walk, Walked, stopped, starts, routersOf, buffersOf, fromOf, toOf, linkAt, badLink, networkRows, networkVerdict, cycleAt, demandAt, hopsAt, hopAt, badHop, repeated, gap, brokenAt, circuitRows, circuitBodyRows, circuitVerdict, requestStep, requestWalk, circuitAt, request, offsetAt, badOffset, offsetsRows, offsetsVerdict, assignmentStep, assignmentWalk, offsetsAt, assignment, routerAt, periodAt, slotAt, lineSpareAt, inAt, outAt, lineRows, lineVerdict, tableStep, tableWalk, lineAt, table}
 use Rattle.model.specs.Answers.{damage}
 use Rattle.model.specs.Jobs.{requestFault, assignmentFault}
 use Rattle.model.specs.declared.Fault.{Fault}
@@ -25,7 +26,7 @@ use Rattle.model.specs.declared.Verdict.{Verdict}
 use Rattle.model.specs.declared.Verdict.the-variants.{Fine, Faulty}
 use Rattle.model.proofs.Tests.{same, or-false, some-false, getD-map, length-upTo, getD-upTo}
 use Rattle.model.proofs.Sound.{SoundPath, SoundRequest, SoundOffsets, SoundTable}
-use Rattle.model.proofs.Records.{Passed, passed, passed-both, FaultFree, fault-free, byte-near}
+use Rattle.model.proofs.Records.{Passed, passed, passed-both, FaultFree, fault-free, unbounded, byte-near}
 
 -- ---- a request
 
@@ -281,3 +282,24 @@ table-byte-fits net s f p e = omega (arith, byte-near lineKind (λ _. false) (li
   where
     small : (n p : ℕ) → lineVerdict net s n p ≡ Fine → lengthAt s p ≤ lineSize
     small n p h = omega (arith, same (lengthAt s p) lineSize (line-tests net s n p h .1 .0))
+
+-- ---- the bound of a walk is never reached: a record too many is refused before, so a larger bound changes nothing
+
+pub request-unbounded : (s : List ℕ) (k : ℕ) → suc circuitsMost ≤ k → (p : ℕ)
+    → walk k (requestStep s) [] p ≡ walk (suc circuitsMost) (requestStep s) [] p
+unfolding requestStep
+request-unbounded s =
+    unbounded circuitKind (λ _. false) (circuitVerdict s) s circuitsMost (λ n p fine. leb-false _ _ (circuit-tests s n p fine .0 .0))
+
+pub assignment-unbounded : (q : Request) (s : List ℕ) → length (q .circuits) ≤ circuitsMost → (k : ℕ) → suc circuitsMost ≤ k
+    → walk k (assignmentStep q s) [] 0 ≡ assignmentWalk q s
+unfolding assignmentStep assignmentWalk
+assignment-unbounded q s few k h = unbounded offsetsKind (early q s) (offsetsVerdict q s) s circuitsMost below k h 0
+  where
+    below : (n p : ℕ) → offsetsVerdict q s n p ≡ Fine → n < circuitsMost
+    below n p fine = let l : n < length (q .circuits) = leb-false _ _ (offsets-tests q s n p fine .0 .0) in omega arith
+
+pub table-unbounded : (net : Network) (s : List ℕ) (k : ℕ) → suc linesMost ≤ k → walk k (tableStep net s) [] 0 ≡ tableWalk net s
+unfolding tableStep tableWalk
+table-unbounded net s k h =
+    unbounded lineKind (λ _. false) (lineVerdict net s) s linesMost (λ n p fine. leb-false _ _ (line-tests net s n p fine .0)) k h 0
