@@ -14,12 +14,12 @@ pub mod Writes
 pub mod Making
 pub mod Refusing
 pub mod Rows
-pub mod Assigning
+pub mod Choosing
 pub mod Searching
-pub mod Agreeing
+pub mod SameSearch
 pub mod Files
 pub mod Checks
 pub mod Makes
-pub mod Allots
+pub mod Slots
 pub mod OneAnswer
 pub mod Details
