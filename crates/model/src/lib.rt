@@ -1,7 +1,7 @@
 // What a job answers, and what is wrong with a file. The meaning of each answer, its number and its
 // details, is given by specs/Answers.antt. Assumes nothing.
 
-// What is wrong with a record.
+// What is wrong with a record: the numbers 1 to 9 in this order.
 pub enum Fault {
     Cut,
     Kind,
@@ -28,7 +28,8 @@ pub enum Step {
     Refused(Fault, usize),
 }
 
-// What a job answers.
+// What a job answers. Done, Made and Allocated are number 0, for jobs that write nothing, that write,
+// and that search and write; Damaged has its fault's number; the others are 10 to 17 in this order.
 pub enum Answer {
     Done,
     Made {
