@@ -31,38 +31,38 @@ use Rattle.model.proofs.Records.{Passed, passed, passed-both, FaultFree
 -- ---- a request
 
 -- the tests of its records: of the network, of the links, of a circuit
-abbrev networkTests : List ℕ → List (Bool × Fault)
+abbrev pub networkTests : List ℕ → List (Bool × Fault)
 networkTests s = networkRows (length s) (lengthAt s 0) (kindAt s 0) (routersOf s) (buffersOf s)
 
-abbrev linkTests : List ℕ → List (Bool × Fault)
+abbrev pub linkTests : List ℕ → List (Bool × Fault)
 linkTests s = (some? (buffersOf s) (badLink s (routersOf s)), Value) ∷ []
 
-abbrev circuitTests : List ℕ → ℕ → ℕ → List (Bool × Fault)
+abbrev pub circuitTests : List ℕ → ℕ → ℕ → List (Bool × Fault)
 circuitTests s n p = circuitRows n (have s p) (lengthAt s p) (cycleAt s p) (demandAt s p) (hopsAt s p)
 
 module _ (s : List ℕ) where
   -- its links
-  link-is : (b : ℕ) → b < buffersOf s → linkOf (request s .network) b ≡ linkAt s b
+  pub link-is : (b : ℕ) → b < buffersOf s → linkOf (request s .network) b ≡ linkAt s b
   unfolding request
   link-is b h = getD-upTo (buffersOf s) (linkAt s) b noLink h
 
-  from-is : (b : ℕ) → b < buffersOf s → fromRouter (request s .network) b ≡ fromOf s b
+  pub from-is : (b : ℕ) → b < buffersOf s → fromRouter (request s .network) b ≡ fromOf s b
   from-is b h = ap (λ (l : Link). l .from) (link-is b h)
 
-  to-is : (b : ℕ) → b < buffersOf s → toRouter (request s .network) b ≡ toOf s b
+  pub to-is : (b : ℕ) → b < buffersOf s → toRouter (request s .network) b ≡ toOf s b
   to-is b h = ap (λ (l : Link). l .to) (link-is b h)
 
-  buffers-are : length (request s .network .links) ≡ buffersOf s
+  pub buffers-are : length (request s .network .links) ≡ buffersOf s
   unfolding request
   buffers-are = length-upTo (buffersOf s) (linkAt s)
 
   -- the network record without a fault
   module _ (fine : networkVerdict s ≡ Fine) where
-    network-tests : Passed (networkTests s) × Passed (linkTests s)
+    pub network-tests : Passed (networkTests s) × Passed (linkTests s)
     unfolding networkVerdict
     network-tests = passed-both (networkTests s) (linkTests s) fine
 
-    ends-known : (b : ℕ) → b < buffersOf s → (fromOf s b < routersOf s) × (toOf s b < routersOf s)
+    pub ends-known : (b : ℕ) → b < buffersOf s → (fromOf s b < routersOf s) × (toOf s b < routersOf s)
     unfolding badLink
     ends-known b h =
         let t = or-false _ _ (or-false _ _ (or-false _ _ (some-false (buffersOf s) (badLink s (routersOf s)) (network-tests .1 .0) b h) .0) .0) in
@@ -70,11 +70,11 @@ module _ (s : List ℕ) where
 
   -- circuit number n, at byte p, without a fault
   module _ (n p : ℕ) (fine : circuitVerdict s n p ≡ Fine) where
-    circuit-tests : Passed (circuitTests s n p) × Passed (circuitBodyRows s p)
+    pub circuit-tests : Passed (circuitTests s n p) × Passed (circuitBodyRows s p)
     unfolding circuitVerdict
     circuit-tests = passed-both (circuitTests s n p) (circuitBodyRows s p) fine
 
-    hop-known : (j : ℕ) → j < hopsAt s p → hopAt s p j < buffersOf s
+    pub hop-known : (j : ℕ) → j < hopsAt s p → hopAt s p j < buffersOf s
     hop-known j h = leb-false _ _ (some-false (hopsAt s p) (badHop s p (buffersOf s)) (circuit-tests .1 .1 .0) j h)
 
     unbroken : (j : ℕ) → j < hopsAt s p → (repeated s p j ≡ false) × (gap s p j ≡ false)
@@ -88,7 +88,7 @@ module _ (s : List ℕ) where
     unfolding gap
     joined j h = same (toOf s (hopAt s p j)) (fromOf s (hopAt s p (suc j))) (unbroken (suc j) h .1)
 
-    path-sound : SoundPath (request s .network) (circuitAt s p)
+    pub path-sound : SoundPath (request s .network) (circuitAt s p)
     path-sound =
         let t = circuit-tests .0 .1 .1 .1 .1 .1 in
         record {
@@ -123,10 +123,10 @@ module _ (s : List ℕ) where
         pick i j hi hj e (no k) (no l) = omega arith
 
   -- the walk over the file, by the verdict on its network
-  abbrev walkedBy : Verdict → Walked
+  abbrev pub walkedBy : Verdict → Walked
   walkedBy v = goOn (onward s 0 v) [] (λ p. walk (suc circuitsMost) (requestStep s) [] p)
 
-  request-free : requestFault s ≡ none
+  pub request-free : requestFault s ≡ none
       → (networkVerdict s ≡ Fine) × FaultFree (λ _. false) (circuitVerdict s) (suc circuitsMost) (starts (requestWalk s))
   unfolding requestWalk
   request-free e = go (networkVerdict s) e
@@ -167,19 +167,19 @@ rises (suc n) f a e low high up = (
 )
 
 module _ (q : Request) (s : List ℕ) where
-  abbrev offsetsTests : ℕ → ℕ → List (Bool × Fault)
+  abbrev pub offsetsTests : ℕ → ℕ → List (Bool × Fault)
   offsetsTests n p = offsetsRows n (length (q .circuits)) (have s p) (lengthAt s p) (circuitOf q n .demand)
 
-  abbrev risingTests : ℕ → ℕ → List (Bool × Fault)
+  abbrev pub risingTests : ℕ → ℕ → List (Bool × Fault)
   risingTests n p = (some? (lengthAt s p) (badOffset s p (circuitOf q n .cycle)), Offsets) ∷ []
 
   -- an end record behind n offsets records comes too early
-  abbrev early : ℕ → Bool
+  abbrev pub early : ℕ → Bool
   early n = ltb n (length (q .circuits))
 
   -- record number n, at byte p, without a fault
   module _ (n p : ℕ) (fine : offsetsVerdict q s n p ≡ Fine) where
-    offsets-tests : Passed (offsetsTests n p) × Passed (risingTests n p)
+    pub offsets-tests : Passed (offsetsTests n p) × Passed (risingTests n p)
     unfolding offsetsVerdict
     offsets-tests = passed-both (offsetsTests n p) (risingTests n p) fine
 
@@ -202,7 +202,7 @@ module _ (q : Request) (s : List ℕ) where
         high zero h = leb-false _ _ (good 0 h)
         high (suc i) h = later i h .0
 
-  offsets-free : assignmentFault q s ≡ none → FaultFree early (offsetsVerdict q s) (suc circuitsMost) (starts (assignmentWalk q s))
+  pub offsets-free : assignmentFault q s ≡ none → FaultFree early (offsetsVerdict q s) (suc circuitsMost) (starts (assignmentWalk q s))
   unfolding assignmentWalk
   offsets-free e = fault-free offsetsKind early (offsetsVerdict q s) s assignmentFile (suc circuitsMost) 0 e
 
@@ -231,14 +231,14 @@ module _ (q : Request) (s : List ℕ) where
 -- ---- lines
 
 module _ (net : Network) (s : List ℕ) where
-  abbrev lineTests : ℕ → ℕ → List (Bool × Fault)
+  abbrev pub lineTests : ℕ → ℕ → List (Bool × Fault)
   lineTests n p = lineRows net n (have s p) (lengthAt s p) (routerAt s p) (periodAt s p) (slotAt s p) (lineSpareAt s p) (inAt s p) (outAt s p)
 
-  line-tests : (n p : ℕ) → lineVerdict net s n p ≡ Fine → Passed (lineTests n p)
+  pub line-tests : (n p : ℕ) → lineVerdict net s n p ≡ Fine → Passed (lineTests n p)
   unfolding lineVerdict
   line-tests n p fine = passed (lineTests n p) fine
 
-  lines-free : damage tableFile (tableWalk net s) ≡ none → FaultFree (λ _. false) (lineVerdict net s) (suc linesMost) (starts (tableWalk net s))
+  pub lines-free : damage tableFile (tableWalk net s) ≡ none → FaultFree (λ _. false) (lineVerdict net s) (suc linesMost) (starts (tableWalk net s))
   unfolding tableWalk
   lines-free e = fault-free lineKind (λ _. false) (lineVerdict net s) s tableFile (suc linesMost) 0 e
 

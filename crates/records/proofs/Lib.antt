@@ -1,0 +1,2 @@
+-- Laws that the proofs over records cite. Assumes nothing.
+pub mod Laws
