@@ -1,0 +1,2 @@
+-- The definitions that the contracts cite. Assumes nothing.
+pub mod Parts
