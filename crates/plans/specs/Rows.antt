@@ -1,14 +1,18 @@
 -- How rows of numbers stand for the circuits of a request: cycles, demands, and the uses of each circuit. Assumes nothing: these are definitions.
 use Prim.Native.Nat.{ℕ, suc, _+_, _*_, _^_, _≤_, _<_}
 use mathlib.Core.Path.{_≡_}
+use mathlib.Core.Logic.{_⊎_}
 use mathlib.Core.List.{List}
+use mathlib.Core.Option.{none}
 use lib.ListN.{length, getD}
 use Rattle.model.specs.Sizes.{circuitsMost, hopsMost, cycleMost, headSize}
 use Rattle.model.specs.Network.{Request, Use, uses, circuitOf}
 use Rattle.model.specs.Holding.{offsetsOf}
 use Rattle.model.specs.Tests.{upTo}
 use Rattle.model.specs.Search.{Rises}
-use Rattle.model.specs.Reading.{offsetAt}
+use Rattle.model.specs.Reading.{offsetAt, request}
+use Rattle.model.specs.Jobs.{requestFault}
+use Rattle.reader.specs.Parts.{StartsAt}
 use Rattle.mask.specs.Bits.{offsets}
 
 -- a circuit has no more uses than this: its local inport and its buffers
@@ -61,3 +65,33 @@ pub record Rising (s : List ℕ) (p count : ℕ) : Type 0 where
 pub record MaskOf (s : List ℕ) (p count m : ℕ) : Type 0 where
   pub parts : offsets m ≡ upTo count (offsetAt s p)
   pub low : (d : ℕ) → ((k : ℕ) → k < count → offsetAt s p k < d) → m < 2 ^ d
+
+-- the request file req has no fault and n circuits, and the record of circuit c starts at byte c of a row
+pub record Starts (req : List ℕ) (n : ℕ) (at : List ℕ) : Type 0 where
+  pub fine : requestFault req ≡ none
+  pub many : n ≡ length (request req .circuits)
+  pub few : n ≤ circuitsMost
+  pub at-long : length at ≡ circuitsMost
+  pub each : (c : ℕ) → c < n → StartsAt req c (getD at c 0)
+
+-- a row that from place `base` on has f 0, f 1, .. : i of them, and else is as it was
+pub record Filled (f : ℕ → ℕ) (base i : ℕ) (old new : List ℕ) : Type 0 where
+  pub long : length new ≡ length old
+  pub right : (k : ℕ) → k < i → getD new (base + k) 0 ≡ f k
+  pub kept : (p : ℕ) → (p < base) ⊎ (base + i ≤ p) → getD new p 0 ≡ getD old p 0
+
+-- the first i uses of circuit c stand in their rows
+abbrev pub whatOf : Request → ℕ → ℕ → ℕ
+whatOf q c k = useOf q c k .what
+
+abbrev pub afterOf : Request → ℕ → ℕ → ℕ
+afterOf q c k = useOf q c k .after
+
+pub record UsesIn (q : Request) (c i : ℕ) (whats₀ afters₀ whats afters : List ℕ) : Type 0 where
+  pub whats-in : Filled (whatOf q c) (c * usesMost) i whats₀ whats
+  pub afters-in : Filled (afterOf q c) (c * usesMost) i afters₀ afters
+
+-- r is how many uses circuit c has, and they all stand in their rows
+pub record UsesAre (q : Request) (c : ℕ) (whats₀ afters₀ whats afters : List ℕ) (r : ℕ) : Type 0 where
+  pub count : r ≡ usesOf q c
+  pub filled : UsesIn q c (usesOf q c) whats₀ afters₀ whats afters

@@ -1,0 +1,7 @@
+-- What the proofs of the functions use, and from a table that is right to the definition's search. Assumes nothing.
+mod WalkLaws
+mod EndsLaws
+mod CellLaws
+mod LoopLaws
+mod ReplyLaws
+pub mod Bridge
