@@ -1,0 +1,28 @@
+-- What the answers of the layers below are in the words of the jobs, for `search`. Assumes nothing.
+use Prim.Native.Nat.{ℕ, _<_}
+use mathlib.Core.Path.{_≡_, refl, sym, ap, _∙_}
+use mathlib.Core.List.{List, []}
+use mathlib.Core.Option.{none, some}
+use Rattle.model.specs.Sizes.{requestFile, detailEnd}
+use Rattle.model.specs.Tests.{orElse}
+use Rattle.model.specs.Jobs.{Contract, read, readRequest, requestFault}
+use Rattle.model.specs.declared.Fault.{Fault}
+use Rattle.model.specs.declared.Answer.the-variants.{Done, Damaged}
+use Rattle.records.specs.declared.Ending.the-variants.{Whole, Stopped}
+use Rattle.reader.specs.Parts.{planOf}
+use Rattle.reader.specs.declared.Plan.{Plan}
+use Rattle.reader.proofs.Parts.{reads-of, fault-of, byte-fits}
+
+-- ---- reading a request
+
+module _ (s : List ℕ) (p : Plan) (e : p ≡ planOf s) where
+  pub read-whole : p .ending ≡ Whole → Contract (read s) Done []
+  unfolding readRequest orElse
+  read-whole h = record { answer = rw (reads-of s p e h .whole) refl; area = refl }
+
+  pub read-stopped : (f : Fault) (q : ℕ) → p .ending ≡ Stopped f q → Contract (read s) (Damaged requestFile f q) []
+  unfolding readRequest orElse
+  read-stopped f q h = record { answer = rw (fault-of s p e f q h) refl; area = refl }
+
+  pub byte-small : (f : Fault) (q : ℕ) → p .ending ≡ Stopped f q → q < detailEnd
+  byte-small f q h = byte-fits s p e f q h

@@ -1,0 +1,2 @@
+-- What the answers of the layers below are in the words of the jobs. Assumes nothing.
+pub mod Jobs
