@@ -1,0 +1,229 @@
+// Writes the files of jobs, the assignment and the table, into an area with room. Assumes nothing.
+ghost use mathlib.Core.Path.{_≡_};
+ghost use mathlib.Core.List.{[], _∷_, _++_};
+ghost use Prim.Native.Nat.{_+_, _≤_, _<_};
+ghost use lib.ListN.{length};
+ghost use Rattle.model.specs.Sizes.{headSize, lineSize, cycleMost, endKind};
+ghost use Rattle.model.specs.Bytes.{word, recordOf};
+ghost use Rattle.mask.specs.Bits.{offsets};
+ghost use Rattle.maker.specs.Pasting.{pasted, Laid};
+ghost use Rattle.maker.specs.Files.{offsetsRecord, AssignmentFits, WroteAssignment, lineRecord, inpAt, hopBytes, offsetBytes, circuitBytes, tableSize, UsesFit, CountsFit, TableFits, WroteTable};
+
+// The number x in two bytes.
+fn put_word(out: &mut [u8], at: usize, x: usize)
+    requires { ⌜ at + 2 ≤ length (now out) ⌝ }
+    ensures { λ _. ⌜ now (out .exit) ≡ pasted (now (out .entry)) at (word x) ⌝ }
+{
+    out[at] = (x % 256) as u8;
+    out[at + 1] = (x / 256 % 256) as u8;
+}
+
+// Four bytes.
+fn put_four(out: &mut [u8], at: usize, a: u8, b: u8, c: u8, d: u8)
+    requires { ⌜ at + 4 ≤ length (now out) ⌝ }
+    ensures { λ _. ⌜ now (out .exit) ≡ pasted (now (out .entry)) at (a ∷ b ∷ c ∷ d ∷ []) ⌝ }
+{
+    out[at] = a;
+    out[at + 1] = b;
+    out[at + 2] = c;
+    out[at + 3] = d;
+}
+
+// What stands in front of a record's body: its length and its kind.
+fn put_head(out: &mut [u8], at: usize, len: usize, kind: usize)
+    requires { ⌜ at + headSize ≤ length (now out) ⌝ }
+    ensures { λ _. ⌜ now (out .exit) ≡ pasted (now (out .entry)) at (word len ++ word kind) ⌝ }
+{
+    put_word(out, at, len);
+    put_word(out, at + 2, kind);
+}
+
+// The end record; and the place behind it.
+fn put_end(out: &mut [u8], at: usize) -> usize
+    requires { ⌜ at + headSize ≤ length (now out) ⌝ }
+    ensures { λ r. ⌜ Laid (now (out .entry)) at (recordOf endKind []) (now (out .exit)) r ⌝ }
+{
+    put_head(out, at, 0, 5);
+    at + 4
+}
+
+// The offsets of a mask, rising, a byte for each; and the place behind them.
+fn put_places(out: &mut [u8], at: usize, mask: u32) -> usize
+    requires { ⌜ at + length (offsets mask) ≤ length (now out) ⌝ }
+    ensures { λ r. ⌜ Laid (now (out .entry)) at (offsets mask) (now (out .exit)) r ⌝ }
+{
+    let mut left = mask;
+    let mut p = at;
+    while left != 0 {
+        let a = mask::lowest(left);
+        out[p] = a as u8;
+        p += 1;
+        left = mask::without(left, a);
+    }
+    p
+}
+
+// The offsets record of a mask.
+fn put_offsets(out: &mut [u8], at: usize, mask: u32) -> usize
+    requires { ⌜ at + length (offsetsRecord mask) ≤ length (now out) ⌝ }
+    ensures { λ r. ⌜ Laid (now (out .entry)) at (offsetsRecord mask) (now (out .exit)) r ⌝ }
+{
+    let len = mask::size(mask) as usize;
+    put_head(out, at, len, 3);
+    put_places(out, at + 4, mask)
+}
+
+// The assignment: an offsets record for each circuit, and the end record. It says how many bytes that is.
+pub fn write_assignment(n: usize, masks: &[u32], out: &mut [u8]) -> usize
+    requires { ⌜ AssignmentFits n (now masks) (now out) ⌝ }
+    ensures { λ r. ⌜ WroteAssignment n (now (masks .entry)) (now (out .entry)) (now (out .exit)) r ⌝ }
+{
+    let mut at = 0;
+    for c in 0..n {
+        at = put_offsets(out, at, masks[c]);
+    }
+    put_end(out, at)
+}
+
+// The record of a line.
+fn put_line(out: &mut [u8], at: usize, router: u8, period: u8, slot: u8, inp: usize, to: usize)
+    requires { ⌜ at + (headSize + lineSize) ≤ length (now out) ⌝ }
+    ensures { λ _. ⌜ now (out .exit) ≡ pasted (now (out .entry)) at (lineRecord router period slot inp to) ⌝ }
+{
+    put_head(out, at, 8, 4);
+    put_four(out, at + 4, router, period, slot, 0);
+    put_word(out, at + 8, inp);
+    put_word(out, at + 10, to);
+}
+
+// The inport of hop j: the local one, and then the buffer before.
+fn inport(whats: &[usize], first: usize, j: usize) -> usize
+    requires { ⌜ first + j < length (now whats) ⌝ }
+    ensures { λ r. ⌜ r ≡ inpAt (now (whats .entry)) first j ⌝ }
+{
+    if j == 0 {
+        return 65535;
+    }
+    whats[first + j]
+}
+
+// How many bytes the table will have.
+pub fn table_size(n: usize, counts: &[usize], masks: &[u32]) -> usize
+    requires { ⌜ CountsFit n (now counts) (now masks) ⌝ }
+    ensures { λ r. ⌜ r ≡ tableSize n (now (counts .entry)) (now (masks .entry)) ⌝ }
+{
+    let mut total: usize = 4;
+    for c in 0..n {
+        let slots = mask::size(masks[c]) as usize;
+        total += slots * (counts[c] - 1) * 12;
+    }
+    total
+}
+
+// The line of hop j of the circuit whose uses begin at `first`, with offset a; and the place behind it.
+fn put_hop(
+    req: &[u8],
+    whats: &[usize],
+    afters: &[usize],
+    first: usize,
+    hops: usize,
+    cycle: u32,
+    a: u32,
+    j: usize,
+    out: &mut [u8],
+    at: usize,
+) -> usize
+    requires { ⌜ UsesFit (now whats) (now afters) first hops cycle ⌝ }
+    requires { ⌜ (a < cycleMost) × (j < hops) × (at + (headSize + lineSize) ≤ length (now out)) ⌝ }
+    ensures { λ r. ⌜ Laid (now (out .entry)) at (hopBytes (now (req .entry)) (now (whats .entry)) (now (afters .entry)) first cycle a j) (now (out .exit)) r ⌝ }
+{
+    let u = first + j + 1;
+    let to = whats[u];
+    let d = cycle as usize;
+    let router = records::byte(req, 8 + 2 * to) as u8;
+    let slot = ((a as usize + afters[u]) % d) as u8;
+    let inp = inport(whats, first, j);
+    put_line(out, at, router, cycle as u8, slot, inp, to);
+    at + 12
+}
+
+// The lines of offset a: hop by hop.
+fn put_hops(
+    req: &[u8],
+    whats: &[usize],
+    afters: &[usize],
+    first: usize,
+    hops: usize,
+    cycle: u32,
+    a: u32,
+    out: &mut [u8],
+    at: usize,
+) -> usize
+    requires { ⌜ UsesFit (now whats) (now afters) first hops cycle ⌝ }
+    requires { ⌜ (a < cycleMost) × (at + length (offsetBytes (now req) (now whats) (now afters) first hops cycle a) ≤ length (now out)) ⌝ }
+    ensures { λ r. ⌜ Laid (now (out .entry)) at (offsetBytes (now (req .entry)) (now (whats .entry)) (now (afters .entry)) first hops cycle a) (now (out .exit)) r ⌝ }
+{
+    let mut p = at;
+    for j in 0..hops {
+        p = put_hop(req, whats, afters, first, hops, cycle, a, j, out, p);
+    }
+    p
+}
+
+// The lines of a circuit: offset by offset, rising.
+fn put_circuit(
+    req: &[u8],
+    whats: &[usize],
+    afters: &[usize],
+    first: usize,
+    hops: usize,
+    cycle: u32,
+    mask: u32,
+    out: &mut [u8],
+    at: usize,
+) -> usize
+    requires { ⌜ UsesFit (now whats) (now afters) first hops cycle ⌝ }
+    requires { ⌜ at + length (circuitBytes (now req) (now whats) (now afters) first hops cycle mask) ≤ length (now out) ⌝ }
+    ensures { λ r. ⌜ Laid (now (out .entry)) at (circuitBytes (now (req .entry)) (now (whats .entry)) (now (afters .entry)) first hops cycle mask) (now (out .exit)) r ⌝ }
+{
+    let mut left = mask;
+    let mut p = at;
+    while left != 0 {
+        let a = mask::lowest(left);
+        p = put_hops(req, whats, afters, first, hops, cycle, a, out, p);
+        left = mask::without(left, a);
+    }
+    p
+}
+
+// The table: the lines of each circuit, and the end record. It says how many bytes that is.
+pub fn write_table(
+    req: &[u8],
+    n: usize,
+    cycles: &[u32],
+    counts: &[usize],
+    whats: &[usize],
+    afters: &[usize],
+    masks: &[u32],
+    out: &mut [u8],
+) -> usize
+    requires { ⌜ TableFits n (now cycles) (now counts) (now whats) (now afters) (now masks) (now out) ⌝ }
+    ensures { λ r. ⌜ WroteTable (now (req .entry)) n (now (cycles .entry)) (now (counts .entry)) (now (whats .entry)) (now (afters .entry)) (now (masks .entry)) (now (out .entry)) (now (out .exit)) r ⌝ }
+{
+    let mut at = 0;
+    for c in 0..n {
+        let hops = counts[c] - 1;
+        at = put_circuit(
+            req,
+            whats,
+            afters,
+            c * 17,
+            hops,
+            cycles[c],
+            masks[c],
+            out,
+            at,
+        );
+    }
+    put_end(out, at)
+}
