@@ -8,21 +8,15 @@ ghost use Rattle.model.specs.Tests.{least};
 ghost use Rattle.model.specs.Network.{Request};
 ghost use Rattle.model.specs.Reading.{badOffset, offsetsHead};
 ghost use Rattle.booked.specs.Parts.{OfRequest, offsetsBy, stepBy, bookedOf};
+use model::CIRCUITS_MOST;
+use model::CYCLE_MOST;
+use model::END_KIND;
 use model::Fault;
+use model::HEAD_SIZE;
+use model::OFFSETS_KIND;
 use model::Step;
 use model::Verdict;
 use records::Ending;
-
-// The sizes and the kinds of document 01.
-const CIRCUITS_MOST: usize = 32;
-
-const CYCLE_MOST: usize = 32;
-
-const HEAD_SIZE: usize = 4;
-
-const OFFSETS_KIND: usize = 3;
-
-const END_KIND: usize = 5;
 
 // at[c] is the byte where circuit c's offsets record starts, 0 past the last; where the file is
 // refused, all are 0.

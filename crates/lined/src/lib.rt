@@ -6,7 +6,15 @@ ghost use lib.ListN.{length};
 ghost use Rattle.model.specs.Sizes.{linesMost, wordEnd};
 ghost use Rattle.model.specs.Reading.{request, judge, lineRows, badIn, badOut, lineVerdict, tableStep, lineAt};
 ghost use Rattle.lined.specs.Parts.{linedOf, lineStart, Is};
+use model::CYCLE_MOST;
+use model::END_KIND;
 use model::Fault;
+use model::HEAD_SIZE;
+use model::LINE_BYTES;
+use model::LINE_KIND;
+use model::LINE_SIZE;
+use model::LINES_MOST;
+use model::LOCAL;
 use model::Step;
 use model::Verdict;
 use records::Ending;
@@ -14,23 +22,6 @@ use records::byte;
 use records::end_step;
 use records::past;
 use records::word;
-
-// The sizes and numbers of the format. LOCAL is the `in` that means the local inport.
-const LINES_MOST: usize = 4096;
-
-const CYCLE_MOST: usize = 32;
-
-const LOCAL: usize = 65535;
-
-const HEAD_SIZE: usize = 4;
-
-const LINE_SIZE: usize = 8;
-
-const LINE_BYTES: usize = HEAD_SIZE + LINE_SIZE;
-
-const LINE_KIND: usize = 4;
-
-const END_KIND: usize = 5;
 
 // How the reading ends, and the number of lines: 0 where the file is refused.
 pub struct Lined {

@@ -8,6 +8,9 @@ ghost use Rattle.model.specs.Bytes.{word, recordOf};
 ghost use Rattle.mask.specs.Bits.{offsets};
 ghost use Rattle.maker.specs.Pasting.{pasted, Laid};
 ghost use Rattle.maker.specs.Files.{offsetsRecord, AssignmentFits, WroteAssignment, lineRecord, inpAt, hopBytes, offsetBytes, circuitBytes, tableSize, UsesFit, CountsFit, TableFits, WroteTable};
+use model::LINE_BYTES;
+use model::LOCAL;
+use model::USES_MOST;
 
 // The number x in two bytes.
 fn put_word(out: &mut [u8], at: usize, x: usize)
@@ -102,7 +105,7 @@ fn inport(whats: &[usize], first: usize, j: usize) -> usize
     ensures { λ r. ⌜ r ≡ inpAt (now (whats .entry)) first j ⌝ }
 {
     if j == 0 {
-        return 65535;
+        return LOCAL;
     }
     whats[first + j]
 }
@@ -115,7 +118,7 @@ pub fn table_size(n: usize, counts: &[usize], masks: &[u32]) -> usize
     let mut total: usize = 4;
     for c in 0..n {
         let slots = mask::size(masks[c]) as usize;
-        total += slots * (counts[c] - 1) * 12;
+        total += slots * (counts[c] - 1) * LINE_BYTES;
     }
     total
 }
@@ -144,7 +147,7 @@ fn put_hop(
     let slot = ((a as usize + afters[u]) % d) as u8;
     let inp = inport(whats, first, j);
     put_line(out, at, router, cycle as u8, slot, inp, to);
-    at + 12
+    at + LINE_BYTES
 }
 
 // The lines of offset a: hop by hop.
@@ -217,7 +220,7 @@ pub fn write_table(
             req,
             whats,
             afters,
-            c * 17,
+            c * USES_MOST,
             hops,
             cycles[c],
             masks[c],

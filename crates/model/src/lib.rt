@@ -1,5 +1,46 @@
-// What a job answers, and what is wrong with a file. The meaning of each answer, its number and its
+// The sizes of the format, what a job answers, and what is wrong with a file. The meaning of each answer, its number and its
 // details, is given by specs/Answers.antt. Assumes nothing.
+
+// The sizes, the numbers of the format and the numbers of the files, as specs/Sizes.antt has them.
+pub const ROUTERS_MOST: usize = 64;
+
+pub const BUFFERS_MOST: usize = 128;
+
+pub const CIRCUITS_MOST: usize = 32;
+
+pub const CYCLE_MOST: usize = 32;
+
+pub const HOPS_MOST: usize = 16;
+
+// A circuit uses its local inport and its buffers.
+pub const USES_MOST: usize = HOPS_MOST + 1;
+
+pub const LINES_MOST: usize = 4096;
+
+pub const LOCAL: usize = 65535;
+
+pub const HEAD_SIZE: usize = 4;
+
+pub const LINE_SIZE: usize = 8;
+
+// A line with its head.
+pub const LINE_BYTES: usize = HEAD_SIZE + LINE_SIZE;
+
+pub const NETWORK_KIND: usize = 1;
+
+pub const CIRCUIT_KIND: usize = 2;
+
+pub const OFFSETS_KIND: usize = 3;
+
+pub const LINE_KIND: usize = 4;
+
+pub const END_KIND: usize = 5;
+
+pub const REQUEST_FILE: u32 = 1;
+
+pub const ASSIGNMENT_FILE: u32 = 2;
+
+pub const TABLE_FILE: u32 = 3;
 
 // What is wrong with a record: the numbers 1 to 9 in this order.
 pub enum Fault {

@@ -13,36 +13,26 @@ ghost use Rattle.model.specs.Reading.{samePair, badLink, networkHead, networkVe
 ghost use Rattle.model.specs.Jobs.{requestFault};
 ghost use Rattle.records.specs.Fields.{Byte, Word};
 ghost use Rattle.reader.specs.Parts.{planFor, planOf, sameHop, circuitNumbers, StartsAt, HasLink, CycleIs, DemandIs, HopsIs, HopIs, FromIs, ToIs, BuffersAre, RoutersAre};
+use model::BUFFERS_MOST;
+use model::CIRCUIT_KIND;
+use model::CIRCUITS_MOST;
+use model::CYCLE_MOST;
+use model::END_KIND;
 use model::Fault;
+use model::HEAD_SIZE;
+use model::HOPS_MOST;
+use model::NETWORK_KIND;
+use model::ROUTERS_MOST;
 use model::Step;
 use model::Verdict;
 use records::Ending;
-
-// The sizes and the numbers of the format, as Sizes.antt of the crate `model` has them.
-const ROUTERS: usize = 64;
-
-const BUFFERS: usize = 128;
-
-const CIRCUITS: usize = 32;
-
-const CYCLE: usize = 32;
-
-const HOPS: usize = 16;
-
-const HEAD: usize = 4;
-
-const NETWORK: usize = 1;
-
-const CIRCUIT: usize = 2;
-
-const END: usize = 5;
 
 // What `read` tells of a file: at[c] is the byte where circuit c's record starts, 0 past the last.
 // Of a file with a fault circuits is 0, and so is all of at.
 pub struct Plan {
     pub ending: Ending,
     pub circuits: usize,
-    pub at: [usize; CIRCUITS],
+    pub at: [usize; CIRCUITS_MOST],
 }
 
 // The tests on the numbers of the network record.
@@ -50,31 +40,31 @@ fn network_head(have: usize, len: usize, kind: usize, routers: usize, buffers: u
     requires { ⌜ (len < wordEnd) × (buffers < wordEnd) ⌝ }
     ensures { λ r. ⌜ r ≡ networkHead have len kind routers buffers ⌝ }
 {
-    if have < HEAD {
+    if have < HEAD_SIZE {
         return Verdict::Faulty(Fault::Cut);
     }
-    if kind != NETWORK {
+    if kind != NETWORK_KIND {
         return Verdict::Faulty(Fault::Kind);
     }
     if len < 4 {
         return Verdict::Faulty(Fault::Length);
     }
-    if 4 + 2 * BUFFERS < len {
+    if 4 + 2 * BUFFERS_MOST < len {
         return Verdict::Faulty(Fault::Length);
     }
     if len % 2 != 0 {
         return Verdict::Faulty(Fault::Length);
     }
-    if have < HEAD + len {
+    if have < HEAD_SIZE + len {
         return Verdict::Faulty(Fault::Cut);
     }
     if routers < 1 {
         return Verdict::Faulty(Fault::Count);
     }
-    if ROUTERS < routers {
+    if ROUTERS_MOST < routers {
         return Verdict::Faulty(Fault::Count);
     }
-    if BUFFERS < buffers {
+    if BUFFERS_MOST < buffers {
         return Verdict::Faulty(Fault::Count);
     }
     if len != 4 + 2 * buffers {
@@ -191,7 +181,7 @@ fn circuit_numbers(len: usize, cycle: usize, demand: usize, hops: usize) -> Verd
     if cycle < 1 {
         return Verdict::Faulty(Fault::Count);
     }
-    if CYCLE < cycle {
+    if CYCLE_MOST < cycle {
         return Verdict::Faulty(Fault::Count);
     }
     if demand < 1 {
@@ -203,7 +193,7 @@ fn circuit_numbers(len: usize, cycle: usize, demand: usize, hops: usize) -> Verd
     if hops < 1 {
         return Verdict::Faulty(Fault::Count);
     }
-    if HOPS < hops {
+    if HOPS_MOST < hops {
         return Verdict::Faulty(Fault::Count);
     }
     if len != 4 + 2 * hops {
@@ -224,19 +214,19 @@ fn circuit_head(
     requires { ⌜ (len < wordEnd) × (hops < wordEnd) ⌝ }
     ensures { λ r. ⌜ r ≡ circuitHead n have len cycle demand hops ⌝ }
 {
-    if CIRCUITS <= n {
+    if CIRCUITS_MOST <= n {
         return Verdict::Faulty(Fault::Count);
     }
     if len < 6 {
         return Verdict::Faulty(Fault::Length);
     }
-    if 4 + 2 * HOPS < len {
+    if 4 + 2 * HOPS_MOST < len {
         return Verdict::Faulty(Fault::Length);
     }
     if len % 2 != 0 {
         return Verdict::Faulty(Fault::Length);
     }
-    if have < HEAD + len {
+    if have < HEAD_SIZE + len {
         return Verdict::Faulty(Fault::Cut);
     }
     circuit_numbers(len, cycle, demand, hops)
@@ -384,14 +374,14 @@ fn step_at(s: &[u8], n: usize, p: usize) -> Step
     requires { ⌜ p ≤ length (now s) ⌝ }
     ensures { λ r. ⌜ r ≡ requestStep (now (s .entry)) n p ⌝ }
 {
-    if s.len() - p < HEAD {
+    if s.len() - p < HEAD_SIZE {
         return Step::Refused(Fault::Cut, p);
     }
     let kind = records::word(s, p + 2);
-    if kind == END {
+    if kind == END_KIND {
         return records::end_step(s, p, false);
     }
-    if kind != CIRCUIT {
+    if kind != CIRCUIT_KIND {
         return Step::Refused(Fault::Kind, p);
     }
     let v = circuit(s, n, p);
@@ -402,7 +392,7 @@ fn step_at(s: &[u8], n: usize, p: usize) -> Step
 fn refused(f: Fault, p: usize) -> Plan
     ensures { λ r. ⌜ r ≡ planFor (stopped f p) ⌝ }
 {
-    let at = [0usize; CIRCUITS];
+    let at = [0usize; CIRCUITS_MOST];
     Plan {
         ending: Ending::Stopped(f, p),
         circuits: 0,
@@ -415,7 +405,7 @@ fn circuits(s: &[u8], first: usize) -> Plan
     requires { ⌜ first ≤ length (now s) ⌝ }
     ensures { λ r. ⌜ r ≡ planFor (walk (suc circuitsMost) (requestStep (now (s .entry))) [] first) ⌝ }
 {
-    let mut at = [0usize; CIRCUITS];
+    let mut at = [0usize; CIRCUITS_MOST];
     let mut n = 0;
     let mut p = first;
     loop {
@@ -448,7 +438,7 @@ pub fn read(s: &[u8]) -> Plan
     match v {
         Verdict::Fine => {
             let len = records::word(s, 0);
-            circuits(s, HEAD + len)
+            circuits(s, HEAD_SIZE + len)
         }
         Verdict::Faulty(f) => refused(f, 0),
     }

@@ -8,6 +8,8 @@ ghost use Rattle.model.specs.Sizes.{cycleMost};
 ghost use Rattle.model.specs.Search.{barred, search, reply};
 ghost use Rattle.mask.specs.Bits.{bit, offsets};
 ghost use Rattle.search.specs.Code.{circuits, clashIn, Ready, Before, Cell, CircuitEnds, CellEnds, gathered, Replies};
+use model::CIRCUITS_MOST;
+use model::CYCLE_MOST;
 
 // What a walk comes to: an answer with what is left of the budget, or that the budget is spent.
 pub enum Outcome {
@@ -39,7 +41,7 @@ pub fn blocked(table: &[u32], taken: &[u32], c: usize) -> u32
     let mut acc: u32 = 0;
     let mut e = 0;
     while e < c {
-        acc = gather(table, (c * 32 + e) * 32, taken[e], acc);
+        acc = gather(table, (c * CIRCUITS_MOST + e) * CYCLE_MOST, taken[e], acc);
         e += 1;
     }
     acc

@@ -3,9 +3,8 @@
 ghost use mathlib.Core.List.{[]};
 ghost use Rattle.model.specs.Jobs.{Contract, read};
 use model::Answer;
+use model::REQUEST_FILE;
 use records::Ending;
-
-const REQUEST_FILE: u32 = 1;
 
 // Reads a request.
 pub fn read_request(request: &[u8]) -> Answer
