@@ -6,6 +6,9 @@ pub const ROUTERS_MOST: usize = 64;
 
 pub const BUFFERS_MOST: usize = 128;
 
+// The buffers, and behind them the local inports.
+pub const RESOURCES_MOST: usize = BUFFERS_MOST + ROUTERS_MOST;
+
 pub const CIRCUITS_MOST: usize = 32;
 
 pub const CYCLE_MOST: usize = 32;
