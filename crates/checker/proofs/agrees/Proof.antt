@@ -1,0 +1,28 @@
+-- `checker::agrees` meets its contract. Assumes nothing.
+use Rattle.checker.proofs.Walking.{agrees-here}
+use borrow.Author.Needs.{needs}
+use Rattle.checker.proofs.agrees.Statement.{statement}
+use Rattle.checker.proofs.agrees.Tie as tie
+
+period-of-requires : tie.Need-period-of-requires
+period-of-requires c κs = search needs
+
+slot-of-requires : tie.Need-slot-of-requires
+slot-of-requires c κs = search needs
+
+common-requires : tie.Need-common-requires
+common-requires c κs = search needs
+
+rem-result : tie.Need-rem-result
+rem-result c = search needs
+
+rem-result-2 : tie.Need-rem-result-2
+rem-result-2 c = search needs
+
+returns : tie.Need-returns
+returns c = search agrees-here
+
+pub agrees-spec : {M : Type 1} → statement M
+agrees-spec =
+    tie.close
+    (tie.spec period-of-requires slot-of-requires common-requires rem-result rem-result-2 returns)
