@@ -1,4 +1,7 @@
--- Laws of rows: the uses of a circuit by number, and offsets taken into a mask. Assumes nothing.
+-- Laws of rows: the uses of a circuit by number, rows that are filled, offsets that are taken into masks, and laws for callers. Assumes nothing.
 pub mod Uses
 pub mod Taking
 pub mod Filling
+pub mod Decoding
+pub mod Masking
+pub mod Callers

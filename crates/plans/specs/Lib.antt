@@ -1,2 +1,2 @@
--- How rows of numbers stand for the circuits of a request. Assumes nothing: these are definitions.
+-- The definitions that the contracts cite. Assumes nothing.
 pub mod Rows

@@ -6,10 +6,6 @@ use Rattle.plans.specs.Rows.{MaskOf}
 use Rattle.plans.proofs.Taking.{start-here, above-here, on-here, end-here}
 use Rattle.plans.proofs.mask_at.Statement.{statement}
 use Rattle.plans.proofs.mask_at.Tie as tie
-use Rattle.plans.proofs.mask_at.Reads as reads
-use Rattle.plans.proofs.mask_at.Lts as lts
-use Rattle.mask.proofs.with.Reads as with-reads
-use Rattle.records.proofs.byte.Reads as byte-reads
 
 abbrev Inv-loop : tie.InvT-loop
 Inv-loop s p count mask₀ i₀ mask i = (i ≤ count) × MaskOf s p i mask
@@ -17,43 +13,33 @@ Inv-loop s p count mask₀ i₀ mask i = (i ≤ count) × MaskOf s p i mask
 abbrev μ-loop : tie.MeasureT-loop
 μ-loop s p count mask₀ i₀ mask i = count - i
 
--- src/lib.rt:11:5
 loop-holds : tie.Need-loop-holds Inv-loop μ-loop
 loop-holds c = (omega arith, search start-here)
 
--- src/lib.rt:12:34
 add-byte : tie.Need-add-byte Inv-loop μ-loop
 add-byte c = omega arith
 
--- src/lib.rt:12:34
 add-byte-2 : tie.Need-add-byte-2 Inv-loop μ-loop
 add-byte-2 c = omega arith
 
--- src/lib.rt:12:13
 byte-requires : tie.Need-byte-requires Inv-loop μ-loop
 byte-requires c κs = search needs
 
--- src/lib.rt:13:33
 cast-with : tie.Need-cast-with Inv-loop μ-loop
 cast-with c = omega arith
 
--- src/lib.rt:13:9
 with-requires : tie.Need-with-requires Inv-loop μ-loop
 with-requires c κs = search above-here
 
--- src/lib.rt:11:9
 add-i : tie.Need-add-i Inv-loop μ-loop
 add-i c = omega arith
 
--- src/lib.rt:11:5
 loop-less : tie.Need-loop-less Inv-loop μ-loop
 loop-less c = omega arith
 
--- src/lib.rt:11:5
 loop-again : tie.Need-loop-again Inv-loop μ-loop
 loop-again c = (omega arith, search on-here)
 
--- src/lib.rt:6:1
 returns : tie.Need-returns Inv-loop μ-loop
 returns c = search end-here
 
