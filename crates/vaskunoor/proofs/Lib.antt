@@ -1,2 +1,3 @@
 -- What the answers of the layers below are in the words of the jobs. Assumes nothing.
+pub mod Loading
 pub mod Jobs

@@ -2,9 +2,58 @@
 // one answer and one list of output bytes for every input. Assumes nothing.
 ghost use mathlib.Core.List.{[]};
 ghost use Rattle.model.specs.Jobs.{Contract, read};
+ghost use Rattle.vaskunoor.specs.Loaded.{Loads};
 use model::Answer;
+use model::CIRCUITS_MOST;
 use model::REQUEST_FILE;
+use model::USES_MOST;
 use records::Ending;
+
+// A request as rows of numbers, where its file has no fault.
+struct Plan {
+    ending: Ending,
+    circuits: usize,
+    cycles: [u32; CIRCUITS_MOST],
+    demands: [u32; CIRCUITS_MOST],
+    counts: [usize; CIRCUITS_MOST],
+    whats: [usize; CIRCUITS_MOST * USES_MOST],
+    afters: [usize; CIRCUITS_MOST * USES_MOST],
+}
+
+// The offsets of an assignment, where its file has no fault.
+struct Offsets {
+    ending: Ending,
+    masks: [u32; CIRCUITS_MOST],
+}
+
+// Reads a request into rows.
+fn load(request: &[u8]) -> Plan
+    ensures { λ r. ⌜ Loads (now (request .entry)) r ⌝ }
+{
+    let plan = reader::read(request);
+    let ending = plan.ending;
+    let n = plan.circuits;
+    let at = plan.at;
+    let mut cycles = [0u32; CIRCUITS_MOST];
+    let mut demands = [0u32; CIRCUITS_MOST];
+    let mut counts = [0usize; CIRCUITS_MOST];
+    let mut whats = [0usize; CIRCUITS_MOST * USES_MOST];
+    let mut afters = [0usize; CIRCUITS_MOST * USES_MOST];
+    if let Ending::Whole = ending {
+        plans::decode(
+            request, n, &at, &mut cycles, &mut demands, &mut counts, &mut whats, &mut afters,
+        );
+    }
+    Plan {
+        ending,
+        circuits: n,
+        cycles,
+        demands,
+        counts,
+        whats,
+        afters,
+    }
+}
 
 // Reads a request.
 pub fn read_request(request: &[u8]) -> Answer

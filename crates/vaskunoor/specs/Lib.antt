@@ -1,0 +1,2 @@
+-- What the public calls hold of their files. Assumes nothing: these are definitions.
+pub mod Loaded
