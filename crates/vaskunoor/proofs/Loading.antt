@@ -5,17 +5,21 @@ use mathlib.Core.List.{List}
 use native.Mathlib.Omega.{arith}
 use lib.ListN.{length}
 use Rattle.model.specs.Sizes.{circuitsMost}
-use Rattle.model.specs.Reading.{request, requestWalk}
+use Rattle.model.specs.Network.{Request}
+use Rattle.model.specs.Reading.{request, requestWalk, assignment, assignmentWalk}
+use Rattle.model.proofs.Readers.{request-sound}
 use Rattle.model.specs.declared.Fault.{Fault}
 use Rattle.records.specs.Fields.{endingOf}
 use Rattle.records.specs.declared.Ending.{Ending}
 use Rattle.records.specs.declared.Ending.the-variants.{Whole, Stopped}
-use Rattle.reader.specs.Parts.{planOf, Reads}
+use Rattle.reader.specs.Parts.{planOf}
 use Rattle.reader.specs.declared.Plan.{Plan as Read}
 use Rattle.reader.proofs.Parts.{reads-of, count-is, few}
-use Rattle.plans.specs.Rows.{Rows, Sized, Starts}
-use Rattle.plans.proofs.Callers.{starts-of}
-use Rattle.vaskunoor.specs.Loaded.{Loads, Holds}
+use Rattle.booked.specs.Parts.{OfRequest, bookedOf}
+use Rattle.booked.specs.declared.Booked.{Booked}
+use Rattle.plans.specs.Rows.{Rows, Starts, Ready, Bookings, Masks}
+use Rattle.plans.proofs.Callers.{starts-of, of-request, booked-long, ready-of, bookings-of}
+use Rattle.vaskunoor.specs.Loaded.{Loads, Holds, Numbers, LoadsOffsets}
 use Rattle.vaskunoor.specs.declared.Plan.{Plan}
 
 module _ (s : List ℕ) (p : Read) (e : p ≡ planOf s) where
@@ -35,3 +39,29 @@ module _ (s : List ℕ) (p : Read) (e : p ≡ planOf s) where
   pub load-stopped : (cycles demands counts whats afters : List ℕ) (f : Fault) (b : ℕ) → p .ending ≡ Stopped f b
       → Loads s (record { ending = p .ending; circuits = p .circuits; cycles = cycles; demands = demands; counts = counts; whats = whats; afters = afters })
   load-stopped cycles demands counts whats afters f b h = record { ending = ending-is; holds = λ w. absurd (let z : _≡_ {A = ℕ} 0 1 = cc in omega arith) }
+
+-- ---- an assignment of a request whose numbers stand in rows: b is what was read of its file
+
+module _ (req s : List ℕ) (n : ℕ) (cycles demands : List ℕ) (g : Numbers req n cycles demands) (b : Booked)
+    (e : (q : Request) → OfRequest q n cycles demands → b ≡ bookedOf q s) where
+  booked-is : b ≡ bookedOf (request req) s
+  booked-is = e (request req) (of-request (request req) n cycles demands (g .counts) (g .whats) (g .afters) (sym (g .many)) (g .rows))
+
+  bookings-here : b .ending ≡ Whole → Bookings (request req) s n (b .at) demands
+  bookings-here h =
+      bookings-of (request req) s n cycles demands (g .counts) (g .whats) (g .afters) b (request-sound req (g .fine)) (sym (g .many)) (g .rows) booked-is h
+
+  pub ready-here : b .ending ≡ Whole → (masks : List ℕ) → length masks ≡ circuitsMost → Ready s n (b .at) demands masks
+  ready-here h masks long =
+      ready-of (request req) s n (b .at) demands masks (bookings-here h) (g .few) (booked-long (request req) s b booked-is h) (g .rows .sized .demands-long) long
+
+  ends-so : b .ending ≡ endingOf (assignmentWalk (request req) s)
+  unfolding bookedOf
+  ends-so = ap (λ (x : Booked). x .ending) booked-is
+
+  pub offsets-whole : (masks : List ℕ) → b .ending ≡ Whole → ((q : Request) → Bookings q s n (b .at) demands → Masks q (assignment q s) n masks)
+      → LoadsOffsets (request req) n s (record { ending = b .ending; masks = masks })
+  offsets-whole masks h m = record { ending = ends-so; masks = λ _. m (request req) (bookings-here h) }
+
+  pub offsets-stopped : (masks : List ℕ) (f : Fault) (p : ℕ) → b .ending ≡ Stopped f p → LoadsOffsets (request req) n s (record { ending = b .ending; masks = masks })
+  offsets-stopped masks f p h = record { ending = ends-so; masks = λ w. absurd (let z : _≡_ {A = ℕ} 0 1 = cc in omega arith) }

@@ -30,3 +30,17 @@ pub record Loads (s : List ℕ) (p : Plan) : Type 0 where
 pub record LoadsOffsets (q : Request) (n : ℕ) (s : List ℕ) (o : Offsets) : Type 0 where
   pub ending : o .ending ≡ endingOf (assignmentWalk q s)
   pub masks : o .ending ≡ Whole → Masks q (assignment q s) n (o .masks)
+
+-- the request of a file, under a name that no parameter has
+abbrev pub requestOf : List ℕ → Request
+requestOf s = request s
+
+-- the cycles and demands of the n circuits of a request without a fault
+pub record Numbers (s : List ℕ) (n : ℕ) (cycles demands : List ℕ) : Type 0 where
+  pub fine : requestFault s ≡ none
+  pub many : n ≡ length (request s .circuits)
+  pub few : n ≤ circuitsMost
+  pub counts : List ℕ
+  pub whats : List ℕ
+  pub afters : List ℕ
+  pub rows : Rows (request s) n cycles demands counts whats afters

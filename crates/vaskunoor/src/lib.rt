@@ -2,7 +2,7 @@
 // one answer and one list of output bytes for every input. Assumes nothing.
 ghost use mathlib.Core.List.{[]};
 ghost use Rattle.model.specs.Jobs.{Contract, read};
-ghost use Rattle.vaskunoor.specs.Loaded.{Loads};
+ghost use Rattle.vaskunoor.specs.Loaded.{Loads, Numbers, LoadsOffsets, requestOf};
 use model::Answer;
 use model::CIRCUITS_MOST;
 use model::REQUEST_FILE;
@@ -41,7 +41,14 @@ fn load(request: &[u8]) -> Plan
     let mut afters = [0usize; CIRCUITS_MOST * USES_MOST];
     if let Ending::Whole = ending {
         plans::decode(
-            request, n, &at, &mut cycles, &mut demands, &mut counts, &mut whats, &mut afters,
+            request,
+            n,
+            &at,
+            &mut cycles,
+            &mut demands,
+            &mut counts,
+            &mut whats,
+            &mut afters,
         );
     }
     Plan {
@@ -53,6 +60,27 @@ fn load(request: &[u8]) -> Plan
         whats,
         afters,
     }
+}
+
+// Reads the assignment of a request into masks.
+fn load_offsets(
+    request: &[u8],
+    n: usize,
+    cycles: &[u32],
+    demands: &[u32],
+    assignment: &[u8],
+) -> Offsets
+    requires { ⌜ Numbers (now request) n (now cycles) (now demands) ⌝ }
+    ensures { λ r. ⌜ LoadsOffsets (requestOf (now (request .entry))) n (now (assignment .entry)) r ⌝ }
+{
+    let booked = booked::read(assignment, n, cycles, demands);
+    let ending = booked.ending;
+    let at = booked.at;
+    let mut masks = [0u32; CIRCUITS_MOST];
+    if let Ending::Whole = ending {
+        plans::fill_masks(assignment, n, &at, demands, &mut masks);
+    }
+    Offsets { ending, masks }
 }
 
 // Reads a request.
