@@ -1,7 +1,7 @@
 # What people expect: run, test, bench.
 .PHONY: run test bench
 
-# The main job. In this version: prove the model, with the worked cases of document 01 computed.
+# The main job: prove every crate that changed and run the programs, among them the worked cases of document 01.
 run:
 	rt check
 
