@@ -1,3 +1,5 @@
 -- What the answers of the layers below are in the words of the jobs. Assumes nothing.
 pub mod Loading
 pub mod Jobs
+pub mod Checks
+pub mod Makes

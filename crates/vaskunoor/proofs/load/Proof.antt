@@ -9,50 +9,39 @@ use Rattle.vaskunoor.proofs.load.Lts as lts
 use Rattle.plans.proofs.decode.Reads as decode-reads
 use Rattle.reader.proofs.read.Reads as read-reads
 
--- src/lib.rt:33:9
 read-requires : tie.Need-read-requires
 read-requires c κs = search needs
 
--- src/lib.rt:44:25
 enum-told : tie.Need-enum-told
 enum-told c = search needs
 
--- src/lib.rt:44:25
 slice-aggregate-decode : tie.Need-slice-aggregate-decode
 slice-aggregate-decode c = search needs
 
--- src/lib.rt:44:30
 slice-aggregate-decode-2 : tie.Need-slice-aggregate-decode-2
 slice-aggregate-decode-2 c = search needs
 
--- src/lib.rt:44:43
 slice-aggregate-decode-3 : tie.Need-slice-aggregate-decode-3
 slice-aggregate-decode-3 c = search needs
 
--- src/lib.rt:44:57
 slice-aggregate-decode-4 : tie.Need-slice-aggregate-decode-4
 slice-aggregate-decode-4 c = search needs
 
--- src/lib.rt:44:70
 slice-aggregate-decode-5 : tie.Need-slice-aggregate-decode-5
 slice-aggregate-decode-5 c = search needs
 
--- src/lib.rt:44:82
 slice-aggregate-decode-6 : tie.Need-slice-aggregate-decode-6
 slice-aggregate-decode-6 c = search needs
 
--- src/lib.rt:43:9
 decode-requires : tie.Need-decode-requires
 decode-requires c κs = (search starts-here, record { cycles-long = refl; demands-long = refl; counts-long = refl; whats-long = refl; afters-long = refl })
 
 enum-told-2 : tie.Need-enum-told-2
 enum-told-2 c = search needs
 
--- src/lib.rt:30:1
 returns : tie.Need-returns
 returns c = search load-whole
 
--- src/lib.rt:30:1
 returns-2 : tie.Need-returns-2
 returns-2 c = search load-stopped
 

@@ -9,34 +9,27 @@ use Rattle.vaskunoor.proofs.load_offsets.Lts as lts
 use Rattle.booked.proofs.read.Reads as read-reads
 use Rattle.plans.proofs.fill_masks.Reads as fill-masks-reads
 
--- src/lib.rt:69:9
 read-requires : tie.Need-read-requires
 read-requires c κs = search needs
 
--- src/lib.rt:74:42
 enum-told : tie.Need-enum-told
 enum-told c = search needs
 
--- src/lib.rt:74:42
 slice-aggregate-fill-masks : tie.Need-slice-aggregate-fill-masks
 slice-aggregate-fill-masks c = search needs
 
--- src/lib.rt:74:56
 slice-aggregate-fill-masks-2 : tie.Need-slice-aggregate-fill-masks-2
 slice-aggregate-fill-masks-2 c = search needs
 
--- src/lib.rt:74:9
 fill-masks-requires : tie.Need-fill-masks-requires
 fill-masks-requires c κs = search (ready-here, c .before .before .before .before .before .read .ensures, refl)
 
 enum-told-2 : tie.Need-enum-told-2
 enum-told-2 c = search needs
 
--- src/lib.rt:59:1
 returns : tie.Need-returns
 returns c = search (offsets-whole, c .before .before .before .before .before .before .before .read .ensures, c .before .fill-masks .ensures)
 
--- src/lib.rt:59:1
 returns-2 : tie.Need-returns-2
 returns-2 c = search (offsets-stopped, c .before .before .before .read .ensures)
 

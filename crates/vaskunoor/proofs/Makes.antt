@@ -1,0 +1,116 @@
+-- What the making of a table comes to in the words of the jobs, for `search`. Assumes nothing.
+use Prim.Native.Nat.{ℕ, _≤_, _<_}
+use mathlib.Core.Path.{_≡_, refl, sym, ap, _∙_}
+use mathlib.Core.Bool.{Bool, true, false}
+use mathlib.Core.List.{List, []}
+use mathlib.Core.Option.{Option, none, some}
+use native.Mathlib.Omega.{arith}
+use lib.Dec.{ltb}
+use lib.ListN.{length}
+use borrow.Author.Tests.{lt-ltb, le-ltb}
+use Rattle.model.specs.Sizes.{detailEnd}
+use Rattle.model.specs.Tests.{given, _else_}
+use Rattle.model.specs.Holding.{clashFault}
+use Rattle.model.specs.Lines.{linesFor}
+use Rattle.model.specs.Reading.{request, assignment}
+use Rattle.model.specs.Answers.{told}
+use Rattle.model.specs.Jobs.{Contract, make, Result, writes, unless, makeTables, tableBytes, requestFault, assignmentFault, shortFault}
+use Rattle.model.specs.declared.Answer.{Answer}
+use Rattle.model.specs.declared.Answer.the-variants.{Made, Short}
+use Rattle.model.proofs.Details.{details-fit}
+use Rattle.maker.specs.Files.{CountsFit, TableFits, tableSize, Wrote, WroteTable}
+use Rattle.maker.proofs.Tables.{rows-fit, table-size}
+use Rattle.vaskunoor.specs.Checked.{refusalOf, refusing, Checks}
+use Rattle.vaskunoor.specs.declared.Refusal.the-variants.{Nothing, Told}
+use Rattle.vaskunoor.specs.declared.Checked.{Checked}
+
+-- ---- the job, by what speaks against it and by the room that there is
+
+else-assoc : {A : Type 0} (f g h : Option A) → f else g else h ≡ (f else g) else h
+unfolding _else_
+else-assoc none g h = refl
+else-assoc (some x) g h = refl
+
+-- the table
+abbrev tableOf : List ℕ → List ℕ → List ℕ
+tableOf req asg = tableBytes (linesFor (request req) (assignment (request req) asg))
+
+abbrev making : List ℕ → List ℕ → Option Answer → Result
+making bytes old o = unless o old (writes old (Made (length bytes)) bytes)
+
+module _ (req asg old : List ℕ) where
+  make-is : makeTables req asg old ≡ making (tableOf req asg) old (refusing req asg else shortFault (length (tableOf req asg)) old)
+  unfolding makeTables
+  make-is =
+      let r = requestFault req in
+      let a = assignmentFault (request req) asg in
+      let k = clashFault (request req) (assignment (request req) asg) in
+      let s = shortFault (length (tableOf req asg)) old in
+      ap (making (tableOf req asg) old) (ap (λ o. r else o) (else-assoc a k s) ∙ else-assoc r (a else k) s)
+
+  make-by : (o : Option Answer) → refusing req asg ≡ o → makeTables req asg old ≡ making (tableOf req asg) old (o else shortFault (length (tableOf req asg)) old)
+  make-by o e = make-is ∙ ap (λ x. making (tableOf req asg) old (x else shortFault (length (tableOf req asg)) old)) e
+
+  make-refused : (a : Answer) → refusing req asg ≡ some a → Contract (make req asg old) a old
+  unfolding _else_
+  make-refused a e = let s = make-by (some a) e in record { answer = rw s refl; area = rw s refl }
+
+  -- where nothing speaks against it
+  module _ (e : refusing req asg ≡ none) where
+    make-room : (b : Bool) → ltb (length old) (length (tableOf req asg)) ≡ b
+        → makeTables req asg old ≡ making (tableOf req asg) old (given b (Short (length (tableOf req asg))))
+    unfolding _else_
+    make-room b h = make-by none e ∙ ap (λ x. making (tableOf req asg) old (given x (Short (length (tableOf req asg))))) h
+
+    made-fits : length (tableOf req asg) < detailEnd
+    unfolding given
+    made-fits = go (ltb (length old) (length (tableOf req asg))) (ap (λ x. told (x .answer)) (make-room _ refl))
+      where
+        go : (b : Bool) → told (makeTables req asg old .answer) ≡ told (making (tableOf req asg) old (given b (Short (length (tableOf req asg)))) .answer)
+            → length (tableOf req asg) < detailEnd
+        go true h = (rw h at (details-fit (make req asg old) tt)) .first
+        go false h = (rw h at (details-fit (make req asg old) tt)) .first
+
+-- ---- k is what the checks came to
+
+module _ (req asg : List ℕ) (k : Checked) (g : Checks req asg k) where
+  pub make-told : (old : List ℕ) (a : Answer) → k .refusal ≡ Told a → Contract (make req asg old) a old
+  make-told old a t = make-refused req asg old a (sym (g .refusal) ∙ ap refusalOf t)
+
+  module _ (n : k .refusal ≡ Nothing) where
+    nothing : refusing req asg ≡ none
+    nothing = sym (g .refusal) ∙ ap refusalOf n
+
+    pub counts-fit : CountsFit (k .circuits) (k .counts) (k .masks)
+    counts-fit = rows-fit req _ _ _ _ _ _ _ _ (g .stands n) .counts-fit
+
+    -- the bytes that are needed
+    module _ (needed : ℕ) (e : needed ≡ tableSize (k .circuits) (k .counts) (k .masks)) where
+      needed-is : needed ≡ length (tableOf req asg)
+      needed-is = e ∙ sym (table-size req _ _ _ _ _ _ _ _ (g .stands n))
+
+      pub needed-fits : needed < detailEnd
+      needed-fits = omega (arith, needed-is, made-fits req asg [] nothing)
+
+      pub make-short : (old : List ℕ) → length old < needed → Contract (make req asg old) (Short needed) old
+      unfolding given
+      make-short old h =
+          let s = make-room req asg old nothing true (lt-ltb _ _ (rw needed-is at h)) in
+          record { answer = rw (s, needed-is) refl; area = rw s refl }
+
+      pub table-fits : (old : List ℕ) → needed ≤ length old → TableFits (k .circuits) (k .cycles) (k .counts) (k .whats) (k .afters) (k .masks) old
+      table-fits old h = record { rows = rows-fit req _ _ _ _ _ _ _ _ (g .stands n); room = omega (arith, e) }
+
+    -- what was written
+    module _ (old new : List ℕ) (r : ℕ) (w : WroteTable req (k .circuits) (k .cycles) (k .counts) (k .whats) (k .afters) (k .masks) old new r) where
+      wrote-here : Wrote (tableOf req asg) old new r
+      wrote-here = w .wrote (request req) (assignment (request req) asg) (g .stands n)
+
+      pub wrote-fits : r < detailEnd
+      wrote-fits = omega (arith, wrote-here .size, made-fits req asg [] nothing)
+
+      pub make-made : (needed : ℕ) → needed ≡ tableSize (k .circuits) (k .counts) (k .masks) → needed ≤ length old → Contract (make req asg old) (Made r) new
+      unfolding given
+      make-made needed e h =
+          let s = make-room req asg old nothing false (le-ltb _ _ (rw (needed-is needed e) at h)) in
+          record { answer = rw (s, wrote-here .size) refl; area = rw (s, wrote-here .area) refl }
