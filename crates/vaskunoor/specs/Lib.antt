@@ -1,3 +1,4 @@
--- What the public calls hold of their files. Assumes nothing: these are definitions.
+-- What the public calls hold of their files, and how what was found is answered. Assumes nothing: these are definitions.
 pub mod Loaded
+pub mod Told
 pub mod Checked

@@ -1,4 +1,4 @@
--- What a public call holds of a request and an assignment that it has read. Assumes nothing: these are definitions.
+-- What a public call holds of the files that it has read. Assumes nothing: these are definitions.
 use Prim.Native.Nat.{ℕ, _≤_}
 use mathlib.Core.Path.{_≡_}
 use mathlib.Core.List.{List}
@@ -11,6 +11,7 @@ use Rattle.model.specs.Jobs.{requestFault, assignmentFault}
 use Rattle.records.specs.Fields.{endingOf}
 use Rattle.records.specs.declared.Ending.the-variants.{Whole}
 use Rattle.plans.specs.Rows.{Rows, Masks}
+use Rattle.checker.specs.Checks.{Facts}
 use Rattle.vaskunoor.specs.declared.Plan.{Plan}
 use Rattle.vaskunoor.specs.declared.Offsets.{Offsets}
 
@@ -44,3 +45,10 @@ pub record Numbers (s : List ℕ) (n : ℕ) (cycles demands : List ℕ) : Type 0
   pub whats : List ℕ
   pub afters : List ℕ
   pub rows : Rows (request s) n cycles demands counts whats afters
+
+-- the rows, the masks and the lines of a request, an assignment and a table, all without a fault
+pub record AllRead (req asg tab : List ℕ) (n : ℕ) (cycles counts whats afters masks : List ℕ) (lines : ℕ) : Type 0 where
+  pub request-fine : requestFault req ≡ none
+  pub assignment-fine : assignmentFault (request req) asg ≡ none
+  pub demands : List ℕ
+  pub facts : Facts (request req) (assignment (request req) asg) n cycles demands counts whats afters masks tab lines

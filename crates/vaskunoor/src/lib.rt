@@ -1,18 +1,37 @@
 // The public calls. Each does all its own checking, so none has a `requires`, and each contract gives
 // one answer and one list of output bytes for every input. Assumes nothing.
-ghost use mathlib.Core.List.{[]};
 ghost use mathlib.Core.Path.{_≡_};
-ghost use Rattle.model.specs.Jobs.{Contract, read, check, make};
+ghost use Prim.Native.Nat.{ℕ, _<_};
+ghost use mathlib.Core.List.{List, []};
+ghost use lib.ListN.{length};
+ghost use Rattle.model.specs.Sizes.{circuitsMost, detailEnd};
+ghost use Rattle.model.specs.Network.{Request};
+ghost use Rattle.model.specs.Lines.{linesFault};
+ghost use Rattle.model.specs.Search.{reply, whole};
+ghost use Rattle.model.specs.Reading.{table};
+ghost use Rattle.model.specs.Jobs.{Contract, read, allot, check, make, verify, assignmentSize};
+ghost use Rattle.model.specs.declared.Answer.the-variants.{Damaged};
 ghost use Rattle.clash.specs.Answers.{clashAnswer};
-ghost use Rattle.vaskunoor.specs.Loaded.{Loads, Numbers, LoadsOffsets, requestOf};
+ghost use Rattle.search.specs.Code.{Replies};
+ghost use Rattle.checker.specs.Chains.{Tabled};
+ghost use Rattle.checker.specs.Checks.{checkedAnswer, Ready, Facts};
+ghost use Rattle.vaskunoor.specs.Loaded.{Loads, Holds, Numbers, LoadsOffsets, AllRead, requestOf};
 ghost use Rattle.vaskunoor.specs.Checked.{ByteFits, ClashFits, refusalOf, damageOf, Checks};
+ghost use Rattle.vaskunoor.specs.Told.{orDone, Fits};
 use clash::Clash;
 use model::ASSIGNMENT_FILE;
 use model::Answer;
 use model::CIRCUITS_MOST;
+use model::CYCLE_MOST;
+use model::Fault;
+use model::HEAD_SIZE;
+use model::LINES_MOST;
 use model::REQUEST_FILE;
+use model::RESOURCES_MOST;
+use model::TABLE_FILE;
 use model::USES_MOST;
 use records::Ending;
+use search::Allotted;
 
 // A request as rows of numbers, where its file has no fault.
 struct Plan {
@@ -101,6 +120,74 @@ pub fn read_request(request: &[u8]) -> Answer
             fault,
             byte: byte as u32,
         },
+    }
+}
+
+// ---- Allocation.
+
+// How many bytes the assignment of a request will have.
+fn assignment_size(request: &[u8], plan: Plan) -> usize
+    requires { ⌜ Holds (now request) plan ⌝ }
+    ensures { λ r. ⌜ r ≡ assignmentSize (requestOf (now (request .entry))) ⌝ }
+{
+    let n = plan.circuits;
+    let demands = plan.demands;
+    let mut total = HEAD_SIZE;
+    for c in 0..n {
+        total += HEAD_SIZE + demands[c] as usize;
+    }
+    total
+}
+
+// Looks for slots for the circuits of a request: where it is Done the offsets are in the masks.
+fn search_slots(request: &[u8], plan: Plan, budget: u32, masks: &mut [u32]) -> Allotted
+    requires { ⌜ Holds (now request) plan ⌝ }
+    requires { ⌜ length (now masks) ≡ circuitsMost ⌝ }
+    ensures { λ r. ⌜ Replies (reply budget (whole (requestOf (now (request .entry))))) (plan .circuits) (now (masks .exit)) r ⌝ }
+{
+    let n = plan.circuits;
+    let cycles = plan.cycles;
+    let demands = plan.demands;
+    let counts = plan.counts;
+    let whats = plan.whats;
+    let afters = plan.afters;
+    let mut table = [0u32; CIRCUITS_MOST * CIRCUITS_MOST * CYCLE_MOST];
+    clash::fill(n, &cycles, &counts, &whats, &afters, &mut table);
+    search::allot(&table, &cycles[0..n], &demands[0..n], masks, budget)
+}
+
+// Gives slots to the circuits of a request and writes them as its assignment, with at most `budget`
+// visits of the search.
+pub fn allocate(request: &[u8], budget: u32, assignment: &mut [u8]) -> Answer
+    ensures { λ r. ⌜ Contract (allot (now (request .entry)) budget (now (assignment .entry))) r (now (assignment .exit)) ⌝ }
+{
+    let plan = load(request);
+    let ending = plan.ending;
+    if let Ending::Stopped(fault, byte) = ending {
+        return Answer::Damaged {
+            file: REQUEST_FILE,
+            fault,
+            byte: byte as u32,
+        };
+    }
+    let needed = assignment_size(request, plan);
+    if assignment.len() < needed {
+        return Answer::Short {
+            bytes: needed as u32,
+        };
+    }
+    let n = plan.circuits;
+    let mut masks = [0u32; CIRCUITS_MOST];
+    match search_slots(request, plan, budget, &mut masks) {
+        Allotted::Done(visits) => {
+            let bytes = maker::write_assignment(n, &masks, assignment);
+            Answer::Allocated {
+                visits,
+                bytes: bytes as u32,
+            }
+        }
+        Allotted::Full(visits) => Answer::NoRoom { visits },
+        Allotted::Unfinished => Answer::Unfinished { visits: budget },
     }
 }
 
@@ -231,4 +318,168 @@ pub fn make_tables(request: &[u8], assignment: &[u8], table: &mut [u8]) -> Answe
     Answer::Made {
         bytes: wrote as u32,
     }
+}
+
+// ---- Checking tables.
+
+// The answer to a file that has a fault.
+fn fault_answer(file: u32, fault: Fault, byte: usize) -> Answer
+    requires { ⌜ byte < detailEnd ⌝ }
+    ensures { λ r. ⌜ r ≡ Damaged file fault byte ⌝ }
+{
+    Answer::Damaged {
+        file,
+        fault,
+        byte: byte as u32,
+    }
+}
+
+// What is wrong with the lines of a table, for circuits that do not clash.
+fn check_lines(
+    n: usize,
+    cycles: &[u32],
+    counts: &[usize],
+    whats: &[usize],
+    afters: &[usize],
+    masks: &[u32],
+    t: &[u8],
+    lines: usize,
+) -> checker::Checked
+    requires { ⌜ Tabled (now t) lines ⌝ }
+    requires { ⌜ Ready n (now cycles) (now counts) (now whats) (now afters) (now masks) ⌝ }
+    ensures { λ r. ⌜ ((q : Request) (assigned : List (List ℕ)) (demands : List ℕ) → Facts q assigned n (now (cycles .entry)) demands (now (counts .entry)) (now (whats .entry)) (now (afters .entry)) (now (masks .entry)) (now (t .entry)) lines → checkedAnswer r ≡ linesFault q assigned (table (q .network) (now (t .entry)))) ⌝ }
+{
+    let mut head = [0u16; RESOURCES_MOST];
+    let mut next = [0u16; LINES_MOST];
+    checker::link(t, lines, &mut head, &mut next);
+    checker::check(
+        n,
+        cycles,
+        counts,
+        whats,
+        afters,
+        masks,
+        t,
+        lines,
+        &head,
+        &next,
+    )
+}
+
+// The answer to lines of which this was found.
+fn lines_answer(x: checker::Checked) -> Answer
+    requires { ⌜ Fits (checkedAnswer x) ⌝ }
+    ensures { λ r. ⌜ r ≡ orDone (checkedAnswer x) ⌝ }
+{
+    match x {
+        checker::Checked::Fine => Answer::Done,
+        checker::Checked::Unserved {
+            circuit,
+            offset,
+            hop,
+        } => Answer::Unserved {
+            circuit: circuit as u32,
+            offset: offset as u32,
+            hop: hop as u32,
+        },
+        checker::Checked::Partly {
+            circuit,
+            offset,
+            hop,
+            line,
+        } => Answer::Partly {
+            circuit: circuit as u32,
+            offset: offset as u32,
+            hop: hop as u32,
+            line: line as u32,
+        },
+        checker::Checked::Twice {
+            circuit,
+            offset,
+            hop,
+            line,
+        } => Answer::Twice {
+            circuit: circuit as u32,
+            offset: offset as u32,
+            hop: hop as u32,
+            line: line as u32,
+        },
+        checker::Checked::Astray {
+            circuit,
+            offset,
+            hop,
+            line,
+        } => Answer::Astray {
+            circuit: circuit as u32,
+            offset: offset as u32,
+            hop: hop as u32,
+            line: line as u32,
+        },
+    }
+}
+
+// The answer to a request, an assignment and a table that were read without a fault.
+fn behind_files(
+    request: &[u8],
+    assignment: &[u8],
+    table: &[u8],
+    n: usize,
+    cycles: &[u32],
+    counts: &[usize],
+    whats: &[usize],
+    afters: &[usize],
+    masks: &[u32],
+    lines: usize,
+) -> Answer
+    requires { ⌜ AllRead (now request) (now assignment) (now table) n (now cycles) (now counts) (now whats) (now afters) (now masks) lines ⌝ }
+    ensures { λ r. ⌜ Contract (verify (now (request .entry)) (now (assignment .entry)) (now (table .entry))) r [] ⌝ }
+{
+    let clash = clash::first_clash(n, cycles, counts, whats, afters, masks);
+    let refusal = clashing(clash);
+    if let Refusal::Told(answer) = refusal {
+        return answer;
+    }
+    let found = check_lines(n, cycles, counts, whats, afters, masks, table, lines);
+    lines_answer(found)
+}
+
+// Checks a table against the request and the assignment that it is for.
+pub fn check_tables(request: &[u8], assignment: &[u8], table: &[u8]) -> Answer
+    ensures { λ r. ⌜ Contract (verify (now (request .entry)) (now (assignment .entry)) (now (table .entry))) r [] ⌝ }
+{
+    let plan = load(request);
+    let first = plan.ending;
+    if let Ending::Stopped(fault, byte) = first {
+        return fault_answer(REQUEST_FILE, fault, byte);
+    }
+    let n = plan.circuits;
+    let cycles = plan.cycles;
+    let demands = plan.demands;
+    let booked = load_offsets(request, n, &cycles, &demands, assignment);
+    let second = booked.ending;
+    if let Ending::Stopped(fault, byte) = second {
+        return fault_answer(ASSIGNMENT_FILE, fault, byte);
+    }
+    let lined = lined::read(request, table);
+    let third = lined.ending;
+    if let Ending::Stopped(fault, byte) = third {
+        return fault_answer(TABLE_FILE, fault, byte);
+    }
+    let counts = plan.counts;
+    let whats = plan.whats;
+    let afters = plan.afters;
+    let masks = booked.masks;
+    let lines = lined.lines;
+    behind_files(
+        request,
+        assignment,
+        table,
+        n,
+        &cycles,
+        &counts,
+        &whats,
+        &afters,
+        &masks,
+        lines,
+    )
 }

@@ -1,0 +1,97 @@
+-- `vaskunoor::allocate` meets its contract. Assumes nothing.
+use mathlib.Core.Path.{refl}
+use Rattle.vaskunoor.proofs.Allotting.{refused-byte, refused, holds-here, too-short, needed-small, no-room, not-finished, room-here, written-small, given-here}
+use borrow.Author.Needs.{needs}
+use Rattle.vaskunoor.proofs.allocate.Statement.{statement}
+use Rattle.vaskunoor.proofs.allocate.Tie as tie
+use Rattle.vaskunoor.proofs.allocate.Reads as reads
+use Rattle.vaskunoor.proofs.allocate.Lts as lts
+use Rattle.maker.proofs.write_assignment.Reads as write-assignment-reads
+use Rattle.vaskunoor.proofs.assignment_size.Reads as assignment-size-reads
+use Rattle.vaskunoor.proofs.load.Reads as load-reads
+use Rattle.vaskunoor.proofs.search_slots.Reads as search-slots-reads
+
+load-requires : tie.Need-load-requires
+load-requires c κs = search needs
+
+enum-known-ending : tie.Need-enum-known-ending
+enum-known-ending c = search needs
+
+cast-t14 : tie.Need-cast-t14
+cast-t14 c = search refused-byte
+
+returns : tie.Need-returns
+returns c = search refused
+
+enum-told : tie.Need-enum-told
+enum-told c = search needs
+
+assignment-size-requires : tie.Need-assignment-size-requires
+assignment-size-requires c κs = search holds-here
+
+cast-t17 : tie.Need-cast-t17
+cast-t17 c = search needed-small
+
+returns-2 : tie.Need-returns-2
+returns-2 c = search too-short
+
+slice-aggregate-search-slots : tie.Need-slice-aggregate-search-slots
+slice-aggregate-search-slots c = search needs
+
+search-slots-requires : tie.Need-search-slots-requires
+search-slots-requires c κs = (search holds-here, refl)
+
+enum-known-visits : tie.Need-enum-known-visits
+enum-known-visits c = search needs
+
+slice-aggregate-write-assignment : tie.Need-slice-aggregate-write-assignment
+slice-aggregate-write-assignment c = search needs
+
+write-assignment-requires : tie.Need-write-assignment-requires
+write-assignment-requires c κs = search room-here
+
+cast-t26 : tie.Need-cast-t26
+cast-t26 c = search written-small
+
+enum-known-visits-2 : tie.Need-enum-known-visits-2
+enum-known-visits-2 c = search needs
+
+enum-told-2 : tie.Need-enum-told-2
+enum-told-2 c = search needs
+
+same-length : tie.Need-same-length
+same-length c = search needs
+
+returns-3 : tie.Need-returns-3
+returns-3 c = search given-here
+
+returns-4 : tie.Need-returns-4
+returns-4 c = search no-room
+
+returns-5 : tie.Need-returns-5
+returns-5 c = search not-finished
+
+pub allocate-spec : {M : Type 1} → statement M
+allocate-spec =
+    tie.close
+    (tie.spec
+    load-requires
+    enum-known-ending
+    cast-t14
+    returns
+    enum-told
+    assignment-size-requires
+    cast-t17
+    returns-2
+    slice-aggregate-search-slots
+    search-slots-requires
+    enum-known-visits
+    slice-aggregate-write-assignment
+    write-assignment-requires
+    cast-t26
+    enum-known-visits-2
+    enum-told-2
+    same-length
+    returns-3
+    returns-4
+    returns-5)
