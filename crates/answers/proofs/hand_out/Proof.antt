@@ -8,151 +8,114 @@ use Rattle.answers.proofs.fault_number.Reads as fault-number-reads
 use Rattle.answers.proofs.of_numbers.Reads as of-numbers-reads
 use Rattle.answers.proofs.Laws.{handed-of, handed-damage}
 
--- src/lib.rt:52:25
 enum-told : tie.Need-enum-told
 enum-told c = search needs
 
--- src/lib.rt:52:25
 of-numbers-requires : tie.Need-of-numbers-requires
 of-numbers-requires c κs = search needs
 
--- src/lib.rt:53:24
 enum-known-answer : tie.Need-enum-known-answer
 enum-known-answer c = search needs
 
--- src/lib.rt:53:35
 of-numbers-requires-2 : tie.Need-of-numbers-requires-2
 of-numbers-requires-2 c κs = search needs
 
--- src/lib.rt:54:29
 enum-known-answer-2 : tie.Need-enum-known-answer-2
 enum-known-answer-2 c = search needs
 
--- src/lib.rt:54:48
 of-numbers-requires-3 : tie.Need-of-numbers-requires-3
 of-numbers-requires-3 c κs = search needs
 
--- src/lib.rt:55:27
 enum-known-answer-3 : tie.Need-enum-known-answer-3
 enum-known-answer-3 c = search needs
 
--- src/lib.rt:55:61
 fault-number-requires : tie.Need-fault-number-requires
 fault-number-requires c κs = search needs
 
--- src/lib.rt:55:50
 of-numbers-requires-4 : tie.Need-of-numbers-requires-4
 of-numbers-requires-4 c κs = search needs
 
--- src/lib.rt:56:26
 enum-known-answer-4 : tie.Need-enum-known-answer-4
 enum-known-answer-4 c = search needs
 
--- src/lib.rt:56:38
 of-numbers-requires-5 : tie.Need-of-numbers-requires-5
 of-numbers-requires-5 c κs = search needs
 
--- src/lib.rt:57:30
 enum-known-answer-5 : tie.Need-enum-known-answer-5
 enum-known-answer-5 c = search needs
 
--- src/lib.rt:57:42
 of-numbers-requires-6 : tie.Need-of-numbers-requires-6
 of-numbers-requires-6 c κs = search needs
 
--- src/lib.rt:59:13
 enum-known-answer-6 : tie.Need-enum-known-answer-6
 enum-known-answer-6 c = search needs
 
--- src/lib.rt:63:14
 of-numbers-requires-7 : tie.Need-of-numbers-requires-7
 of-numbers-requires-7 c κs = search needs
 
--- src/lib.rt:65:13
 enum-known-answer-7 : tie.Need-enum-known-answer-7
 enum-known-answer-7 c = search needs
 
--- src/lib.rt:68:14
 of-numbers-requires-8 : tie.Need-of-numbers-requires-8
 of-numbers-requires-8 c κs = search needs
 
--- src/lib.rt:70:13
 enum-known-answer-8 : tie.Need-enum-known-answer-8
 enum-known-answer-8 c = search needs
 
--- src/lib.rt:74:14
 of-numbers-requires-9 : tie.Need-of-numbers-requires-9
 of-numbers-requires-9 c κs = search needs
 
--- src/lib.rt:76:13
 enum-known-answer-9 : tie.Need-enum-known-answer-9
 enum-known-answer-9 c = search needs
 
--- src/lib.rt:80:14
 of-numbers-requires-10 : tie.Need-of-numbers-requires-10
 of-numbers-requires-10 c κs = search needs
 
--- src/lib.rt:82:13
 enum-known-answer-10 : tie.Need-enum-known-answer-10
 enum-known-answer-10 c = search needs
 
--- src/lib.rt:86:14
 of-numbers-requires-11 : tie.Need-of-numbers-requires-11
 of-numbers-requires-11 c κs = search needs
 
--- src/lib.rt:87:25
 enum-known-answer-11 : tie.Need-enum-known-answer-11
 enum-known-answer-11 c = search needs
 
--- src/lib.rt:87:36
 of-numbers-requires-12 : tie.Need-of-numbers-requires-12
 of-numbers-requires-12 c κs = search needs
 
--- src/lib.rt:48:1
 returns : tie.Need-returns
 returns c = search handed-of
 
--- src/lib.rt:48:1
 returns-2 : tie.Need-returns-2
 returns-2 c = search handed-of
 
--- src/lib.rt:48:1
 returns-3 : tie.Need-returns-3
 returns-3 c = search handed-of
 
--- src/lib.rt:48:1
 returns-4 : tie.Need-returns-4
 returns-4 c = search handed-damage
 
--- src/lib.rt:48:1
 returns-5 : tie.Need-returns-5
 returns-5 c = search handed-of
 
--- src/lib.rt:48:1
 returns-6 : tie.Need-returns-6
 returns-6 c = search handed-of
 
--- src/lib.rt:48:1
 returns-7 : tie.Need-returns-7
 returns-7 c = search handed-of
 
--- src/lib.rt:48:1
 returns-8 : tie.Need-returns-8
 returns-8 c = search handed-of
 
--- src/lib.rt:48:1
 returns-9 : tie.Need-returns-9
 returns-9 c = search handed-of
 
--- src/lib.rt:48:1
 returns-10 : tie.Need-returns-10
 returns-10 c = search handed-of
 
--- src/lib.rt:48:1
 returns-11 : tie.Need-returns-11
 returns-11 c = search handed-of
 
--- src/lib.rt:48:1
 returns-12 : tie.Need-returns-12
 returns-12 c = search handed-of
 

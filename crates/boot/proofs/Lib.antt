@@ -1,0 +1,2 @@
+-- The laws behind the calls for C. Assumes nothing.
+pub mod Telling

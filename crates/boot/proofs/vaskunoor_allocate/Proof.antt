@@ -1,0 +1,32 @@
+-- `boot::vaskunoor_allocate` meets its contract. Assumes nothing.
+use borrow.Author.Needs.{needs}
+use Rattle.boot.proofs.Telling.{answered, refused}
+use Rattle.boot.proofs.vaskunoor_allocate.Statement.{statement}
+use Rattle.boot.proofs.vaskunoor_allocate.Tie as tie
+use Rattle.boot.proofs.vaskunoor_allocate.Reads as reads
+use Rattle.boot.proofs.vaskunoor_allocate.Lts as lts
+use Rattle.boot.proofs.tell.Reads as tell-reads
+use Rattle.vaskunoor.proofs.allocate.Reads as allocate-reads
+
+returns : tie.Need-returns
+returns c = refused _ _ _ (c .if1 .taken)
+
+allocate-requires : tie.Need-allocate-requires
+allocate-requires c κs = search needs
+
+tell-requires : tie.Need-tell-requires
+tell-requires c κs = search needs
+
+same-length : tie.Need-same-length
+same-length c = search needs
+
+same-length-2 : tie.Need-same-length-2
+same-length-2 c = search needs
+
+returns-2 : tie.Need-returns-2
+returns-2 c = search answered
+
+pub vaskunoor-allocate-spec : {M : Type 1} → statement M
+vaskunoor-allocate-spec =
+    tie.close
+    (tie.spec returns allocate-requires tell-requires same-length same-length-2 returns-2)
