@@ -9,6 +9,6 @@ run:
 test:
 	sh tests/run
 
-# How long the proofs take from nothing.
+# The proved jobs against a plain program: speed and stack.
 bench:
 	sh tests/bench

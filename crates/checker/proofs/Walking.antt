@@ -5,7 +5,7 @@ use mathlib.Core.Bool.{Bool, true, false, not}
 use mathlib.Core.List.{List}
 use native.Mathlib.Decide.{decLt}
 use native.Mathlib.Omega.{arith}
-use borrow.Author.Tests.{lt-ltb, le-ltb, eq-eqb, ne-eqb, eqb-true}
+use borrow.Author.Tests.{lt-ltb, le-ltb, eq-eqb, ne-eqb, eqb-true, not-true}
 use lib.ListN.{getD}
 use lib.Dec.{T, ltb, eqb}
 use Rattle.model.specs.Sizes.{resourcesMost}
@@ -212,6 +212,15 @@ module _ (t : List ℕ) (lines port cycle start : ℕ) where
 
           is : meets ≡ meet m
           is = meets-is meets me
+
+      -- a line that does not meet the series changes nothing
+      pub going-past : (meets : Bool) → meets ≡ agreesOf t cycle start m → not meets ≡ true → Going one part two m′
+      going-past meets me other =
+          let missed : meets ≡ false = not-true meets other in
+          going-on meets (coversOf t cycle start m) one part two me refl
+          (note-missed lines two m meets (ltb one lines) missed)
+          (note-missed lines part m meets (not (coversOf t cycle start m)) missed)
+          (note-missed lines one m meets true missed)
 
   pub going-all : (one part two m : ℕ) → lines ≤ m → Going one part two m → record { one = one; part = part; two = two } ≡ metBy t lines port cycle start
   unfolding metBy oneOf

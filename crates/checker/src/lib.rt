@@ -146,12 +146,16 @@ fn meeting(
     let mut two = lines;
     let mut m = wide(head[port]);
     while m < lines {
-        let meets = agrees(t, m, cycle, start);
-        let whole = covers(t, m, cycle, start);
-        two = note(lines, two, m, meets, one < lines);
-        part = note(lines, part, m, meets, !whole);
-        one = note(lines, one, m, meets, true);
-        m = wide(next[m]);
+        let here = m;
+        m = wide(next[here]);
+        let meets = agrees(t, here, cycle, start);
+        if !meets {
+            continue;
+        }
+        let whole = covers(t, here, cycle, start);
+        two = note(lines, two, here, meets, one < lines);
+        part = note(lines, part, here, meets, !whole);
+        one = note(lines, one, here, meets, true);
     }
     Met {
         one: one,

@@ -2,9 +2,15 @@
 use Prim.Native.Nat.{_-_}
 use native.Mathlib.Omega.{arith}
 use borrow.Author.Needs.{needs}
-use Rattle.checker.proofs.Walking.{Going, going-none, held-here, going-less, going-on, going-all}
+use Rattle.checker.proofs.Walking.{Going, going-none, held-here, going-less, going-past, going-on, going-all}
 use Rattle.checker.proofs.meeting.Statement.{statement}
 use Rattle.checker.proofs.meeting.Tie as tie
+use Rattle.checker.proofs.meeting.Reads as reads
+use Rattle.checker.proofs.meeting.Lts as lts
+use Rattle.checker.proofs.agrees.Reads as agrees-reads
+use Rattle.checker.proofs.covers.Reads as covers-reads
+use Rattle.checker.proofs.note.Reads as note-reads
+use Rattle.checker.proofs.wide.Reads as wide-reads
 
 abbrev Inv-loop : tie.InvT-loop
 Inv-loop t lines head next port cycle start one₀ part₀ two₀ m₀ one part two m = Going t lines port cycle start one part two m
@@ -24,8 +30,23 @@ wide-requires c κs = search needs
 loop-holds : tie.Need-loop-holds Inv-loop μ-loop
 loop-holds c = search going-none
 
+mul-wide-2 : tie.Need-mul-wide-2 Inv-loop μ-loop
+mul-wide-2 c = omega arith
+
+shared-slice-read-wide-2 : tie.Need-shared-slice-read-wide-2 Inv-loop μ-loop
+shared-slice-read-wide-2 c = omega arith
+
+wide-requires-2 : tie.Need-wide-requires-2 Inv-loop μ-loop
+wide-requires-2 c κs = search needs
+
 agrees-requires : tie.Need-agrees-requires Inv-loop μ-loop
 agrees-requires c κs = search held-here
+
+loop-less : tie.Need-loop-less Inv-loop μ-loop
+loop-less c = search going-less
+
+loop-again : tie.Need-loop-again Inv-loop μ-loop
+loop-again c = search (going-past, c .if1 .taken)
 
 covers-requires : tie.Need-covers-requires Inv-loop μ-loop
 covers-requires c κs = search held-here
@@ -39,20 +60,11 @@ note-requires-2 c κs = search needs
 note-requires-3 : tie.Need-note-requires-3 Inv-loop μ-loop
 note-requires-3 c κs = search needs
 
-mul-wide-2 : tie.Need-mul-wide-2 Inv-loop μ-loop
-mul-wide-2 c = omega arith
+loop-less-2 : tie.Need-loop-less-2 Inv-loop μ-loop
+loop-less-2 c = search going-less
 
-shared-slice-read-wide-2 : tie.Need-shared-slice-read-wide-2 Inv-loop μ-loop
-shared-slice-read-wide-2 c = omega arith
-
-wide-requires-2 : tie.Need-wide-requires-2 Inv-loop μ-loop
-wide-requires-2 c κs = search needs
-
-loop-less : tie.Need-loop-less Inv-loop μ-loop
-loop-less c = search going-less
-
-loop-again : tie.Need-loop-again Inv-loop μ-loop
-loop-again c = search going-on
+loop-again-2 : tie.Need-loop-again-2 Inv-loop μ-loop
+loop-again-2 c = search going-on
 
 returns : tie.Need-returns Inv-loop μ-loop
 returns c = search going-all
@@ -67,14 +79,16 @@ meeting-spec =
     shared-slice-read-wide
     wide-requires
     loop-holds
+    mul-wide-2
+    shared-slice-read-wide-2
+    wide-requires-2
     agrees-requires
+    loop-less
+    loop-again
     covers-requires
     note-requires
     note-requires-2
     note-requires-3
-    mul-wide-2
-    shared-slice-read-wide-2
-    wide-requires-2
-    loop-less
-    loop-again
+    loop-less-2
+    loop-again-2
     returns)

@@ -1,0 +1,192 @@
+/* Times the proved jobs against a plain program, in one run and on the same inputs, and measures their stack. Assumes nothing of the
+ * machine but a C library with clock_gettime and ucontext. */
+#define _GNU_SOURCE
+#include <stdio.h>
+#include <stdlib.h>
+#include <time.h>
+#include <ucontext.h>
+#include "../include/vaskunoor.h"
+#include "plain.h"
+
+static uint8_t request[8192], assignment[2048], table[65536], details[VASKUNOOR_DETAILS_SIZE];
+static size_t request_size, assignment_size, table_size;
+
+static double now(void) {
+    struct timespec t;
+    clock_gettime(CLOCK_MONOTONIC, &t);
+    return t.tv_sec + t.tv_nsec * 1e-9;
+}
+
+static uint32_t detail(int i) {
+    const uint8_t *d = details + 4 * i;
+    return d[0] | d[1] << 8 | d[2] << 16 | (uint32_t)d[3] << 24;
+}
+
+/* ---- plans as files */
+
+static void put(uint8_t *area, size_t *size, int byte) { area[(*size)++] = byte; }
+static void put_word(uint8_t *area, size_t *size, int x) { put(area, size, x & 255); put(area, size, x >> 8); }
+
+static void write_plan(const struct plan *p) {
+    request_size = assignment_size = 0;
+    put_word(request, &request_size, 4 + 2 * p->buffers);
+    put_word(request, &request_size, 1);
+    put_word(request, &request_size, 64);
+    put_word(request, &request_size, p->buffers);
+    for (int b = 0; b < p->buffers; b++) { put(request, &request_size, p->from[b]); put(request, &request_size, p->to[b]); }
+    for (int c = 0; c < p->circuits; c++) {
+        put_word(request, &request_size, 4 + 2 * p->hops[c]);
+        put_word(request, &request_size, 2);
+        put(request, &request_size, p->cycle[c]);
+        put(request, &request_size, p->demand[c]);
+        put(request, &request_size, p->hops[c]);
+        put(request, &request_size, 0);
+        for (int j = 0; j < p->hops[c]; j++) put_word(request, &request_size, p->path[c][j]);
+        put_word(assignment, &assignment_size, p->demand[c]);
+        put_word(assignment, &assignment_size, 3);
+        for (int a = 0; a < 32; a++) if (p->mask[c] >> a & 1) put(assignment, &assignment_size, a);
+    }
+    put_word(request, &request_size, 0);
+    put_word(request, &request_size, 5);
+    put_word(assignment, &assignment_size, 0);
+    put_word(assignment, &assignment_size, 5);
+}
+
+/* n circuits on one buffer, with this cycle and demand */
+static void one_buffer(struct plan *p, int n, int cycle, int demand) {
+    memset(p, 0, sizeof *p);
+    p->buffers = 1;
+    p->to[0] = 1;
+    p->circuits = n;
+    for (int c = 0; c < n; c++) { p->cycle[c] = cycle; p->demand[c] = demand; p->hops[c] = 1; }
+}
+
+/* n rings of 16 routers, each walked whole by four circuits of cycle 32; with a demand of 8 they take every slot: 512 lines a ring */
+static void rings(struct plan *p, int n, int demand) {
+    memset(p, 0, sizeof *p);
+    p->buffers = 16 * n;
+    p->circuits = 4 * n;
+    for (int r = 0; r < n; r++) {
+        int back = r & 1, first = r / 2 * 16;
+        for (int i = 0; i < 16; i++) {
+            p->from[16 * r + i] = first + (back ? (24 - i) % 16 : i);
+            p->to[16 * r + i] = first + (back ? (23 - i) % 16 : (i + 1) % 16);
+        }
+        for (int k = 0; k < 4; k++) {
+            int c = 4 * r + k;
+            p->cycle[c] = 32;
+            p->demand[c] = demand;
+            p->hops[c] = 16;
+            p->mask[c] = (demand == 8 ? 0x11111111u : (1u << 4 * demand) / 15) << k;
+            for (int j = 0; j < 16; j++) p->path[c][j] = 16 * r + j;
+        }
+    }
+}
+
+/* ---- the search */
+
+static struct plain_search plain;
+
+static void search(const char *name, const struct plan *p, uint32_t budget) {
+    write_plan(p);
+    double best = 1e9, plain_best = 1e9;
+    uint32_t number = 0;
+    int found = 0;
+    for (int round = 0; round < 3; round++) {
+        double t = now();
+        number = vaskunoor_allocate(request, request_size, budget, assignment, sizeof assignment, details, sizeof details);
+        t = now() - t;
+        if (t < best) best = t;
+        t = now();
+        memset(&plain, 0, sizeof plain);
+        plain.p = p;
+        plain.budget = budget;
+        plain_fill(&plain);
+        found = plain_enter(&plain, 0);
+        t = now() - t;
+        if (t < plain_best) plain_best = t;
+    }
+    if (plain.visits != detail(0) || number != (found < 0 ? 11u : 10u)) { printf("%s: the two disagree\n", name); exit(1); }
+    printf("%s: answer %u, %u visits; proved %.3f s, %.1f million visits a second; plain %.3f s, %.1f; share %.2f\n", name, number,
+           detail(0), best, detail(0) / best / 1e6, plain_best, detail(0) / plain_best / 1e6, plain_best / best);
+}
+
+/* ---- the checks */
+
+struct times { double check, plain, assigned; };
+
+static struct times checks(int n, int demand) {
+    static struct plan p;
+    struct times best = {1e9, 1e9, 1e9};
+    rings(&p, n, demand);
+    write_plan(&p);
+    uint32_t made = vaskunoor_make_tables(request, request_size, assignment, assignment_size, table, sizeof table, details, sizeof details);
+    table_size = detail(0);
+    int lines = (table_size - 4) / 12;
+    if (made != 0 || lines != 64 * n * demand) { printf("no table: %u\n", made); exit(1); }
+    for (int round = 0; round < 20; round++) {
+        double t = now();
+        uint32_t a = vaskunoor_check_tables(request, request_size, assignment, assignment_size, table, table_size, details, sizeof details);
+        t = now() - t;
+        if (t < best.check) best.check = t;
+        t = now();
+        uint32_t b = vaskunoor_check_assignment(request, request_size, assignment, assignment_size, details, sizeof details);
+        t = now() - t;
+        if (t < best.assigned) best.assigned = t;
+        t = now();
+        int c = plain_check(&p, table, lines);
+        t = now() - t;
+        if (t < best.plain) best.plain = t;
+        if (a || b || c) { printf("a good plan was refused: %u %u %d\n", a, b, c); exit(1); }
+    }
+    printf("%d circuits, %d lines: table check %.3f ms, plain %.3f ms, %.1f times; assignment check %.3f ms\n", p.circuits, lines,
+           best.check * 1e3, best.plain * 1e3, best.plain / best.check, best.assigned * 1e3);
+    return best;
+}
+
+/* ---- the stack: the call runs on a stack of its own that was painted before */
+
+enum { STACK = 4 << 20, PAINT = 0xA5 };
+static uint8_t *stack;
+static ucontext_t here, there;
+
+static size_t stack_of(void (*call)(void)) {
+    memset(stack, PAINT, STACK);
+    getcontext(&there);
+    there.uc_stack.ss_sp = stack;
+    there.uc_stack.ss_size = STACK;
+    there.uc_link = &here;
+    makecontext(&there, call, 0);
+    swapcontext(&here, &there);
+    size_t untouched = 0;
+    while (untouched < STACK && stack[untouched] == PAINT) untouched++;
+    return STACK - untouched;
+}
+
+static void do_check(void) {
+    vaskunoor_check_tables(request, request_size, assignment, assignment_size, table, table_size, details, sizeof details);
+}
+
+static void do_allocate(void) {
+    vaskunoor_allocate(request, request_size, 1000000, assignment, sizeof assignment, details, sizeof details);
+}
+
+int main(void) {
+    static struct plan p;
+    one_buffer(&p, 5, 13, 3);
+    search("no room, 5 circuits D 13 N 3 on one buffer", &p, UINT32_MAX);
+    one_buffer(&p, 11, 10, 1);
+    search("no room, 11 circuits D 10 N 1 on one buffer", &p, UINT32_MAX);
+    one_buffer(&p, 32, 31, 1);
+    search("budget 200 million, 32 circuits D 31 N 1 on one buffer", &p, 200000000);
+
+    struct times few = checks(1, 8), thin = checks(8, 1), full = checks(8, 8);
+    printf("from 512 to 4096 lines, 4 circuits to 32: table check %.1f times the time, assignment check %.1f\n", full.check / few.check, full.assigned / few.assigned);
+    printf("from 512 to 4096 lines, 32 circuits both: table check %.1f times the time, assignment check %.1f\n", full.check / thin.check, full.assigned / thin.assigned);
+
+    stack = malloc(STACK);
+    if (!stack) return 1;
+    size_t checking = stack_of(do_check), allocating = stack_of(do_allocate);
+    printf("stack of the table check: %zu bytes; of an allocation of %u visits: %zu bytes\n", checking, detail(0), allocating);
+    return 0;
+}
