@@ -83,6 +83,20 @@ static void rings(struct plan *p, int n, int demand) {
     }
 }
 
+/* 32 circuits, each alone on a buffer and with every slot of its cycle: the search calls itself once for each of the 1,024 offsets */
+static void apart(struct plan *p) {
+    memset(p, 0, sizeof *p);
+    p->buffers = p->circuits = 32;
+    for (int c = 0; c < 32; c++) {
+        p->from[c] = c;
+        p->to[c] = 32 + c;
+        p->cycle[c] = p->demand[c] = 32;
+        p->hops[c] = 1;
+        p->mask[c] = UINT32_MAX;
+        p->path[c][0] = c;
+    }
+}
+
 /* ---- the search */
 
 static struct plain_search plain;
@@ -186,7 +200,10 @@ int main(void) {
 
     stack = malloc(STACK);
     if (!stack) return 1;
-    size_t checking = stack_of(do_check), allocating = stack_of(do_allocate);
+    size_t checking = stack_of(do_check);
+    apart(&p);
+    write_plan(&p);
+    size_t allocating = stack_of(do_allocate);
     printf("stack of the table check: %zu bytes; of an allocation of %u visits: %zu bytes\n", checking, detail(0), allocating);
     return 0;
 }
