@@ -106,7 +106,7 @@ static void search(const char *name, const struct plan *p, uint32_t budget) {
     double best = 1e9, plain_best = 1e9;
     uint32_t number = 0;
     int found = 0;
-    for (int round = 0; round < 3; round++) {
+    for (int round = 0; round < 10; round++) {
         double t = now();
         number = vaskunoor_allocate(request, request_size, budget, assignment, sizeof assignment, details, sizeof details);
         t = now() - t;

@@ -2,7 +2,7 @@
 use mathlib.Core.Path.{_≡_, sym, ap, _∙_}
 use mathlib.Core.Bool.{Bool, true, false}
 use mathlib.Core.List.{List, [], _∷_, _++_, map, map-append}
-use Prim.Native.Nat.{ℕ, _+_, _-_, _^_, _≤_, _<_}
+use Prim.Native.Nat.{ℕ, _+_, _-_, _*_, _^_, _≤_, _<_}
 use native.Mathlib.Numerals.{add-one}
 use native.Mathlib.Omega.{arith}
 use lib.ListN.{length, getD, take, set, length-map}
@@ -71,3 +71,10 @@ ready-as e h = record {
   short = h .short;
   small = h .small;
 }
+
+-- the measure of a cell behind `from` is smaller, and a cell inside has one behind it or is the last
+pub cell-falls : (k : ℕ) {t from a : ℕ} → k * 64 + (cycleMost - from) ≡ t → from ≤ a → a < cycleMost → k * 64 + (cycleMost - (a + 1)) < t
+cell-falls k e h l = omega arith
+
+pub next-le : {a d : ℕ} → a < d → a + 1 ≤ d
+next-le l = omega arith

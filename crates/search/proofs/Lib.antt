@@ -1,4 +1,5 @@
 -- What the proofs of the functions use, and from a table that is right to the definition's search. Assumes nothing.
+mod WordLaws
 mod WalkLaws
 mod EndsLaws
 mod CellLaws

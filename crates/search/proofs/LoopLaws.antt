@@ -3,21 +3,22 @@
 use mathlib.Core.Path.{_≡_, refl, sym, ap, _∙_, subst}
 use mathlib.Core.Bool.{Bool, true, false}
 use mathlib.Core.List.{List, [], _∷_, _++_, map}
-use Prim.Native.Nat.{ℕ, _+_, _-_, _*_, _/_, _%_, _^_, _≤_, _<_}
-use native.Mathlib.Nat.{lt-of-lt-of-le}
+use Prim.Native.Nat.{ℕ, zero, suc, _+_, _-_, _*_, _/_, _%_, _^_, _≤_, _<_}
+use native.Mathlib.Nat.{lt-of-lt-of-le, add-zero, sub-zero}
+use native.Mathlib.Decide.{decLt}
 use native.Mathlib.Omega.{arith}
 use lib.ListN.{length, getD, take, set}
 use lib.Pow.{pow-mono}
 use lib.Dec.{ltb}
 use lib.Count.{ones}
 use lib.Bits.{bitOr}
-use borrow.Author.Tests.{lt-ltb, le-ltb, eq-eqb, ne-eqb}
+use borrow.Author.Tests.{lt-ltb, le-ltb, eq-eqb, ne-eqb, eqb-true}
 use Rattle.model.specs.Sizes.{cycleMost}
 use Rattle.model.specs.Tests.{_and_, neg}
 use Rattle.model.specs.Search.{Walk, choice, thenTry}
 use Rattle.mask.specs.Bits.{bit, offsets, Above}
 use Rattle.mask.proofs.Laws.{offsets-length, offsets-more}
-use Rattle.search.specs.Code.{Cell, fromCell, Ends, CircuitEnds, CellEnds}
+use Rattle.search.specs.Code.{Cell, SkippedTo, fromCell, Ends, CircuitEnds, CellEnds}
 use Rattle.search.specs.declared.Outcome.{Outcome}
 use Rattle.search.specs.declared.Outcome.the-variants.{Found, NoRoom, Over}
 use Rattle.search.proofs.WalkLaws.{fromTake, fromSkip, cell-split}
@@ -203,3 +204,54 @@ module _ {table cycles demands : List ℕ} {c from mask shut budget : ℕ} {old 
   out-end e p q {new} {r} h =
       let w = t .within in
       t .goes-on new r (ends-circuit table cycles demands c shut a mask left now new r (omega arith) p q h)
+
+-- ---- cells that can only be skipped
+
+set-bit : (x i : ℕ) → bit x i ≡ true → x / 2 ^ i % 2 ≡ 0 → ⊥
+unfolding bit
+set-bit x i e z = omega (arith, eqb-true (x / 2 ^ i % 2) 1 e)
+
+module _ {table cycles demands : List ℕ} {c from mask shut budget : ℕ} {old now : List ℕ} {a left r : ℕ}
+    (t : Turn table cycles demands c from mask shut budget old now a left)
+    (s : SkippedTo shut a (getD cycles c 0) (getD demands c 0) (ones mask) r) where
+  abbrev At : ℕ → ℕ → Type 0
+  At = Turn table cycles demands c from mask shut budget old now
+
+  -- at one of them, with k visits to spare
+  only-skipped : (i k : ℕ) → a ≤ i → i < r → (u : At i k) → Nothing u now k
+  only-skipped i k l h u = go (decLt (ones mask) (getD demands c 0))
+    where
+      go : Dec (ones mask < getD demands c 0) → Nothing u now k
+      go (yes wanted) = not-free u (set-bit shut i (s .none i l h wanted)) refl refl
+      go (no full) = not-wanted u (omega arith) refl refl
+
+  turn-past : (n : ℕ) → a + n ≤ r → n ≤ left → At (a + n) (left - n)
+  turn-past zero h q = rw (add-zero a, sub-zero left) t
+  turn-past (suc n) h q =
+      let u = turn-past n (omega arith) (omega arith) in
+      let m = s .may (omega arith) in
+      let w = s .within in
+      let on = turn-again u (omega arith) (only-skipped (a + n) (left - n) (omega arith) (omega arith) u) (omega arith) (λ e. omega arith) in
+      subst (λ (x : ℕ). At x (left - suc n)) (omega arith) (subst (λ (y : ℕ). At (a + n + 1) y) (omega arith) on)
+
+  -- past all of them
+  pub turn-on : r - a ≤ left → At r (left - (r - a))
+  turn-on h =
+      let b = s .started in
+      subst (λ (x : ℕ). At x (left - (r - a))) (omega arith) (turn-past (r - a) (omega arith) (omega arith))
+
+  -- the budget ends among them
+  pub out-short : left < r - a → Whole t now Over
+  out-short h =
+      let u = turn-past left (omega arith) (omega arith) in
+      let m = s .may (omega arith) in
+      let w = s .within in
+      out-broke u (omega arith) (only-skipped (a + left) (left - left) (omega arith) (omega arith) u) (omega arith) (omega arith)
+
+-- not at the end, and so one is wanted
+pub still-wanted : {shut a cycle demand have r : ℕ} → SkippedTo shut a cycle demand have r → (r ≡ cycle → ⊥) → have < demand
+still-wanted {shut} {a} {cycle} {demand} {have} s h = go (decLt have demand)
+  where
+    go : Dec (have < demand) → have < demand
+    go (yes w) = w
+    go (no f) = absurd (h (s .full (omega arith)))

@@ -2,7 +2,7 @@
 -- outcome of a walk under a budget. Assumes nothing: these are definitions.
 use mathlib.Core.Path.{_≡_}
 use Prim.Native.Nat.{ℕ, _+_, _-_, _*_, _^_, _<_, _≤_}
-use mathlib.Core.Bool.{Bool, cond}
+use mathlib.Core.Bool.{Bool, true, cond}
 use mathlib.Core.List.{List, [], _∷_, _++_, map}
 use lib.ListN.{length, getD, take, drop}
 use lib.Dec.{leb}
@@ -73,6 +73,14 @@ pub record Cell (cycles : List ℕ) (c a mask : ℕ) : Type 0 where
   pub circuit : c < length cycles
   pub within : a ≤ getD cycles c 0
   pub low : mask < 2 ^ a
+
+-- the cells from a up to r can only be skipped: each may be, and none is free while one is wanted; where no more is wanted, those are all
+pub record SkippedTo (shut a cycle demand have r : ℕ) : Type 0 where
+  pub started : a ≤ r
+  pub within : r ≤ cycle
+  pub may : a < r → demand + r ≤ cycle + have
+  pub none : (i : ℕ) → a ≤ i → i < r → have < demand → bit shut i ≡ true
+  pub full : demand ≤ have → r ≡ cycle
 
 -- the entries of a table at base + a for each a of a list, joined bit by bit with x
 unfoldable pub gathered : (table : List ℕ) (base x : ℕ) → List ℕ → ℕ

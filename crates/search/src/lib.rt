@@ -1,13 +1,13 @@
 // The search for slots: cells in order, take before skip, with a budget of visits. The offsets that
 // a circuit has taken are the set bits of a mask. Assumes nothing.
 ghost use mathlib.Core.Path.{_≡_};
-ghost use Prim.Native.Nat.{ℕ, _+_, _≤_};
+ghost use Prim.Native.Nat.{ℕ, _+_, _≤_, _<_};
 ghost use mathlib.Core.List.{[], map};
 ghost use lib.ListN.{length, take};
 ghost use Rattle.model.specs.Sizes.{cycleMost};
 ghost use Rattle.model.specs.Search.{barred, search, reply};
 ghost use Rattle.mask.specs.Bits.{bit, offsets};
-ghost use Rattle.search.specs.Code.{circuits, clashIn, Ready, Before, Cell, CircuitEnds, CellEnds, gathered, Replies};
+ghost use Rattle.search.specs.Code.{circuits, clashIn, Ready, Before, Cell, SkippedTo, CircuitEnds, CellEnds, gathered, Replies};
 use model::CIRCUITS_MOST;
 use model::CYCLE_MOST;
 
@@ -28,7 +28,7 @@ pub fn gather(table: &[u32], base: usize, m: u32, from: u32) -> u32
     while rest != 0 {
         let a = u32::trailing_zeros(rest);
         acc = acc | table[base + a as usize];
-        rest = rest - (1u32 << a);
+        rest = rest & (rest - 1);
     }
     acc
 }
@@ -67,9 +67,29 @@ pub fn enter(
     walk(table, cycles, demands, taken, c, 0, 0, shut, left)
 }
 
+// The next cell of a circuit, from a on, that could be taken or may not be skipped, or else its end.
+fn next_cell(shut: u32, a: u32, cycle: u32, demand: u32, have: u32) -> u32
+    requires { ⌜ a < cycle ⌝ }
+    requires { ⌜ (cycle ≤ cycleMost) × (demand ≤ cycleMost) × (have ≤ cycleMost) ⌝ }
+    ensures { λ r. ⌜ SkippedTo shut a cycle demand have r ⌝ }
+{
+    if demand <= have {
+        return cycle;
+    }
+    if cycle + have <= demand + a {
+        return a;
+    }
+    let last = cycle + have - demand;
+    let free = a + u32::trailing_zeros(!(shut >> a));
+    if last < free {
+        return last;
+    }
+    free
+}
+
 // The walk from cell `from` of circuit c on, whose taken offsets are the mask's bits and whose
-// offsets in `shut` are not free. A turn is a cell: it is taken, and where that comes to nothing it
-// is skipped.
+// offsets in `shut` are not free. A turn passes the cells that can only be skipped; then a cell is
+// taken where it is free, and where that comes to nothing it is skipped.
 pub fn walk(
     table: &[u32],
     cycles: &[u32],
@@ -91,22 +111,29 @@ pub fn walk(
     let mut a = from;
     let mut left = budget;
     while a < cycle {
-        if have < demand {
-            if (shut >> a) % 2 == 0 {
-                if left == 0 {
+        let next = next_cell(shut, a, cycle, demand, have);
+        if left < next - a {
+            return Outcome::Over;
+        }
+        left = left - (next - a);
+        a = next;
+        if a == cycle {
+            continue;
+        }
+        if (shut >> a) % 2 == 0 {
+            if left == 0 {
+                return Outcome::Over;
+            }
+            let got = mask | (1u32 << a);
+            match walk(table, cycles, demands, taken, c, a + 1, got, shut, left - 1) {
+                Outcome::Found(rest) => {
+                    return Outcome::Found(rest);
+                }
+                Outcome::Over => {
                     return Outcome::Over;
                 }
-                let got = mask | (1u32 << a);
-                match walk(table, cycles, demands, taken, c, a + 1, got, shut, left - 1) {
-                    Outcome::Found(rest) => {
-                        return Outcome::Found(rest);
-                    }
-                    Outcome::Over => {
-                        return Outcome::Over;
-                    }
-                    Outcome::NoRoom(rest) => {
-                        left = rest;
-                    }
+                Outcome::NoRoom(rest) => {
+                    left = rest;
                 }
             }
         }

@@ -1,14 +1,16 @@
 -- `search::gather` meets its contract: what is joined so far, joined with the entries of the bits that are left, is the whole.
 -- The measure is the rest of the mask. Assumes nothing.
 use mathlib.Core.Path.{_≡_, refl, sym, ap, _∙_}
-use Prim.Native.Nat.{_<_, _^_, _*_, _%_}
+use Prim.Native.Nat.{_<_, _-_, _^_}
 use native.Mathlib.Omega.{arith}
 use lib.Pow.{pow-pos}
+use lib.Bits.{bitAnd}
 use lib.Count.{trailingZeros}
 use Rattle.model.specs.Sizes.{cycleMost}
 use Rattle.mask.specs.Bits.{offsets, Lowest}
 use Rattle.mask.proofs.Laws.{offsets-first, offsets-zero}
 use Rattle.search.specs.Code.{gathered}
+use Rattle.search.proofs.WordLaws.{and-lower}
 use Rattle.search.proofs.gather.Statement.{statement}
 use Rattle.search.proofs.gather.Tie as tie
 
@@ -20,6 +22,10 @@ abbrev μ-loop : tie.MeasureT-loop
 
 first : (c : tie.In-loop Inv-loop μ-loop) → Lowest (c .before .loop .rest) (trailingZeros cycleMost (c .before .loop .rest))
 first c = offsets-first (c .before .loop .rest) (c .before .loop .inv .0) (omega arith)
+
+without : (c : tie.In-loop Inv-loop μ-loop)
+    → bitAnd (c .before .loop .rest) (c .before .loop .rest - 1) ≡ c .before .loop .rest - 2 ^ trailingZeros cycleMost (c .before .loop .rest)
+without c = and-lower cycleMost (c .before .loop .rest) (c .before .loop .inv .0) (omega arith)
 
 loop-holds : tie.Need-loop-holds Inv-loop μ-loop
 loop-holds c = (omega arith, refl)
@@ -36,24 +42,19 @@ mul-acc c = omega (arith, first c .inside)
 shared-slice-read-acc : tie.Need-shared-slice-read-acc Inv-loop μ-loop
 shared-slice-read-acc c = omega (arith, first (c .before) .inside)
 
-shl-rest : tie.Need-shl-rest Inv-loop μ-loop
-shl-rest c = first (c .before) .inside
-
 sub-rest : tie.Need-sub-rest Inv-loop μ-loop
-sub-rest c = let f = first (c .before) in omega arith
+sub-rest c = omega arith
 
 loop-less : tie.Need-loop-less Inv-loop μ-loop
-loop-less c = let f = first (c .before) in omega (arith, pow-pos (trailingZeros cycleMost (c .before .before .loop .rest)))
+loop-less c = let f = first (c .before) in rw (without (c .before)) (omega (arith, pow-pos (trailingZeros cycleMost (c .before .before .loop .rest))))
 
 loop-again : tie.Need-loop-again Inv-loop μ-loop
 unfolding gathered
 loop-again c =
     let at = c .before .before in
     let x = at .before .args in
-    let t = trailingZeros cycleMost (at .loop .rest) in
     let f = first (c .before) in
-    let bit : (1 * 2 ^ t) % 2 ^ cycleMost ≡ 2 ^ t = omega arith in
-    (omega arith, rw bit (ap (gathered (x .table .now) (x .base) (at .loop .acc)) (sym (f .parts)) ∙ at .loop .inv .1))
+    rw (without (c .before)) (omega arith, ap (gathered (x .table .now) (x .base) (at .loop .acc)) (sym (f .parts)) ∙ at .loop .inv .1)
 
 returns : tie.Need-returns Inv-loop μ-loop
 unfolding gathered
@@ -74,7 +75,6 @@ gather-spec =
     add-acc
     mul-acc
     shared-slice-read-acc
-    shl-rest
     sub-rest
     loop-less
     loop-again
