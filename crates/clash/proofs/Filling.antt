@@ -1,11 +1,11 @@
 -- The table of clashes: what loops over offsets, entries and pairs have filled in. Assumes nothing.
 use Prim.Native.Nat.{ℕ, _+_, _≤_, _<_}
 use mathlib.Core.Path.{_≡_, refl, sym, ap, _∙_}
-use mathlib.Core.Bool.{Bool, true, false, _||_}
+use mathlib.Core.Bool.{true, false, _||_}
 use mathlib.Core.List.{List}
 use native.Mathlib.Omega.{arith}
 use native.Mathlib.Decide.{decLt}
-use borrow.Author.Tests.{eq-eqb, ne-eqb}
+use borrow.Author.Tests.{ne-eqb}
 use lib.ListN.{length, getD, set, length-set}
 use lib.Seq.{getD-set-same, getD-set-other}
 use lib.Dec.{eqb}
@@ -15,7 +15,7 @@ use Rattle.mask.specs.Bits.{bit, Marked}
 use Rattle.mask.proofs.Laws.{bit-none}
 use Rattle.clash.specs.Differences.{ahead, usesIn, Bad, Barred, PairFilled}
 use Rattle.clash.specs.Bookings.{Lent, bookingAt, pairAt, placeIn, CircuitFilled, FilledFor}
-use Rattle.clash.proofs.Marking.{or-none}
+use Rattle.clash.proofs.Marking.{or-none, marked-new}
 use Rattle.clash.proofs.Booked.{pair-each, clash-stands}
 
 -- ---- one entry: the offsets below k are settled, and no other is in
@@ -42,16 +42,12 @@ module _ {bad g b : ℕ} where
       clear = λ a h. m .bits a ∙ ap (λ z. z || eqb a k) (done .clear a (omega arith)) ∙ ne-eqb a k (λ e. omega arith);
     }
       where
-        or-true : (z : Bool) → (z || true) ≡ true
-        or-true true = refl
-        or-true false = refl
-
         pick : (a : ℕ) → a < k + 1 → Dec (a < k) → bit r a ≡ bit bad (ahead g a b)
         pick a h (yes l) =
             m .bits a ∙ ap (λ z. bit acc a || z) (ne-eqb a k (λ e. omega arith)) ∙ or-none (bit acc a) ∙ done .settled a l
         pick a h (no l) =
             let s : a ≡ k = omega arith in
-            rw s (m .bits k ∙ ap (λ z. bit acc k || z) (eq-eqb k k refl) ∙ or-true (bit acc k) ∙ sym (rw e at f))
+            rw s (marked-new m ∙ sym (rw e at f))
 
     pub barred-all : {d : ℕ} → k ≡ d → Barred bad g d b acc
     barred-all e = rw (← e) (record { bits = done .settled })

@@ -6,3 +6,4 @@ pub mod Booked
 pub mod Filling
 pub mod Held
 pub mod First
+pub mod Sets

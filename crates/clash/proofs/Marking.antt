@@ -21,9 +21,21 @@ pub or-none : (b : Bool) → (b || false) ≡ b
 or-none true = refl
 or-none false = refl
 
+or-true : (b : Bool) → (b || true) ≡ true
+or-true true = refl
+or-true false = refl
+
 pub or-assoc : (a b c : Bool) → ((a || b) || c) ≡ (a || (b || c))
 or-assoc true b c = refl
 or-assoc false b c = refl
+
+-- ---- one bit more
+
+pub marked-kept : {m i r : ℕ} → Marked m i r → (d : ℕ) → bit m d ≡ true → bit r d ≡ true
+marked-kept {i = i} k d e = k .bits d ∙ ap (λ z. z || eqb d i) e
+
+pub marked-new : {m i r : ℕ} → Marked m i r → bit r i ≡ true
+marked-new {m} {i} k = k .bits i ∙ ap (λ z. bit m i || z) (eq-eqb i i refl) ∙ or-true (bit m i)
 
 -- ---- one element more
 

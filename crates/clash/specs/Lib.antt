@@ -2,3 +2,4 @@
 pub mod Differences
 pub mod Bookings
 pub mod Answers
+pub mod Sets

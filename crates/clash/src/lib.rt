@@ -1,6 +1,8 @@
-// When circuits clash: by differences of offsets modulo the common divisor. Assumes nothing.
+// When circuits clash: by the resources that they share, and by differences of offsets modulo the common
+// divisor. Assumes nothing.
 ghost use mathlib.Core.Path.{_≡_};
-ghost use Prim.Native.Nat.{_+_, _*_, _≤_, _<_};
+ghost use mathlib.Core.Bool.{true};
+ghost use Prim.Native.Nat.{ℕ, _+_, _*_, _≤_, _<_};
 ghost use lib.ListN.{length, getD};
 ghost use Rattle.model.specs.Sizes.{circuitsMost};
 ghost use Rattle.model.specs.Holding.{clashes?};
@@ -8,10 +10,16 @@ ghost use Rattle.divisor.specs.Common.{Cycle};
 ghost use Rattle.clash.specs.Differences.{ahead, usesIn, InRows, Placed, MarksUse, Bad, oneHits, hitsAny, Barred, PairFilled};
 ghost use Rattle.clash.specs.Bookings.{Long, Known, Lent, bookingAt, tableSize, CircuitFilled, FilledFor, HoldsIs, BothIs};
 ghost use Rattle.clash.specs.Answers.{FirstIs};
+ghost use Rattle.clash.specs.Sets.{setWords, setAt, InSet, Grown, Listed, Collected, SetOf, SetsOf, Apart};
 use model::CIRCUITS_MOST;
 use model::CYCLE_MOST;
 use model::RESOURCES_MOST;
 use model::USES_MOST;
+
+// A circuit's set of resources has a bit for each, in words.
+const WORD_BITS: usize = 32;
+
+const SET_WORDS: usize = (RESOURCES_MOST + WORD_BITS - 1) / WORD_BITS;
 
 // Where a plan first clashes.
 pub enum Clash {
@@ -286,6 +294,85 @@ fn both_hold(
     holds(cycles, counts, whats, afters, e, me, t, w)
 }
 
+// ---- Sets of resources.
+
+// Puts resource w into the set of circuit c. A number that is no resource shares the bit of one.
+fn put(sets: &mut [u32], c: usize, w: usize)
+    requires { ⌜ setAt c + setWords ≤ length (now sets) ⌝ }
+    ensures grown { λ r. ⌜ Grown (now (sets .entry)) (now (sets .exit)) ⌝ }
+    ensures added { λ r. ⌜ InSet (now (sets .exit)) c w ⌝ }
+{
+    let at = c * SET_WORDS + w / WORD_BITS % SET_WORDS;
+    sets[at] = mask::mark(sets[at], (w % WORD_BITS) as u32);
+}
+
+// Puts what circuit c uses into its set.
+fn collect(counts: &[usize], whats: &[usize], c: usize, sets: &mut [u32])
+    requires { ⌜ Listed (now counts) (now whats) c ⌝ }
+    requires { ⌜ setAt c + setWords ≤ length (now sets) ⌝ }
+    ensures grown { λ r. ⌜ Grown (now (sets .entry)) (now (sets .exit)) ⌝ }
+    ensures all { λ r. ⌜ Collected (now (whats .entry)) (now (sets .exit)) c (getD (now (counts .entry)) c 0) ⌝ }
+{
+    let first = c * USES_MOST;
+    let count = counts[c];
+    for k in 0..count {
+        put(sets, c, whats[first + k]);
+    }
+}
+
+// Puts what n circuits use into their sets.
+fn collect_all(n: usize, counts: &[usize], whats: &[usize], sets: &mut [u32])
+    requires { ⌜ ((c : ℕ) → c < n → Listed (now counts) (now whats) c) ⌝ }
+    requires { ⌜ setAt n ≤ length (now sets) ⌝ }
+    ensures { λ r. ⌜ SetsOf (now (counts .entry)) (now (whats .entry)) (now (sets .exit)) n ⌝ }
+{
+    for c in 0..n {
+        collect(counts, whats, c, sets);
+    }
+}
+
+// Whether the sets of circuits c and e have nothing in common.
+fn apart(sets: &[u32], c: usize, e: usize) -> bool
+    requires { ⌜ setAt c + setWords ≤ length (now sets) ⌝ }
+    requires { ⌜ setAt e + setWords ≤ length (now sets) ⌝ }
+    ensures { λ r. ⌜ (r ≡ true → Apart (now (sets .entry)) c e setWords) ⌝ }
+{
+    let p = c * SET_WORDS;
+    let q = e * SET_WORDS;
+    for k in 0..SET_WORDS {
+        if sets[p + k] & sets[q + k] != 0 {
+            return false;
+        }
+    }
+    true
+}
+
+// Whether circuit c with the offsets mc clashes with circuit e with the offsets me: never where their
+// sets are apart.
+fn clashes_by_sets(
+    sets: &[u32],
+    cycles: &[u32],
+    counts: &[usize],
+    whats: &[usize],
+    afters: &[usize],
+    c: usize,
+    e: usize,
+    mc: u32,
+    me: u32,
+) -> bool
+    requires { ⌜ Long (now cycles) (now counts) (now whats) (now afters) ⌝ }
+    requires { ⌜ Known (now cycles) (now counts) c ⌝ }
+    requires { ⌜ Known (now cycles) (now counts) e ⌝ }
+    requires { ⌜ SetOf (now counts) (now whats) (now sets) c ⌝ }
+    requires { ⌜ SetOf (now counts) (now whats) (now sets) e ⌝ }
+    ensures { λ r. ⌜ r ≡ clashes? (bookingAt (now (cycles .entry)) (now (counts .entry)) (now (whats .entry)) (now (afters .entry)) c mc) (bookingAt (now (cycles .entry)) (now (counts .entry)) (now (whats .entry)) (now (afters .entry)) e me) ⌝ }
+{
+    if apart(sets, c, e) {
+        return false;
+    }
+    pair_clashes(cycles, counts, whats, afters, c, e, mc, me)
+}
+
 // ---- The plan.
 
 // The slots before both circuits come round together for certain.
@@ -312,12 +399,14 @@ pub fn first_clash(
     requires { ⌜ length (now masks) ≡ circuitsMost ⌝ }
     ensures { λ r. ⌜ FirstIs n (now (cycles .entry)) (now (counts .entry)) (now (whats .entry)) (now (afters .entry)) (now (masks .entry)) r ⌝ }
 {
+    let mut sets = [0u32; CIRCUITS_MOST * SET_WORDS];
+    collect_all(n, counts, whats, &mut sets);
     let mut answer = Clash::Nowhere;
     'found: for i in 0..n {
         let mi = masks[i];
         for j in i + 1..n {
             let mj = masks[j];
-            if !pair_clashes(cycles, counts, whats, afters, i, j, mi, mj) {
+            if !clashes_by_sets(&sets, cycles, counts, whats, afters, i, j, mi, mj) {
                 continue;
             }
             let slots = slots_of(cycles, i, j);

@@ -2,37 +2,45 @@
 use Prim.Native.Nat.{_-_, _<_}
 use mathlib.Core.Path.{_≡_, refl, sym, _∙_}
 use native.Mathlib.Omega.{arith}
+use borrow.Author.Needs.{needs}
 use borrow.Author.Tests.{not-true}
 use Rattle.model.specs.Sizes.{resourcesMost}
 use Rattle.clash.specs.Bookings.{bookedAt}
 use Rattle.clash.specs.declared.Clash.the-variants.{Nowhere}
 use Rattle.clash.proofs.First.{ClearWhats, ClearSlots, ClearHigher, ClearLower, Low, whats-none, whats-more, slots-none, slots-more, rows-skip, rows-all, higher-none, higher-more, lower-none, lower-more, nowhere, somewhere}
+use Rattle.clash.proofs.Sets.{listed}
 use Rattle.clash.proofs.first_clash.Statement.{statement}
 use Rattle.clash.proofs.first_clash.Tie as tie
 
 abbrev Inv-loop3 : tie.InvT-loop3
-Inv-loop3 n cycles counts whats afters masks answer₀ i mi j mj slots t w₀ answer w = (answer ≡ Nowhere) × (Low n cycles masks → ClearWhats (bookedAt cycles counts whats afters masks i) (bookedAt cycles counts whats afters masks j) t w)
+Inv-loop3 n cycles counts whats afters masks sets answer₀ i mi j mj slots t w₀ answer w = (answer ≡ Nowhere) × (Low n cycles masks → ClearWhats (bookedAt cycles counts whats afters masks i) (bookedAt cycles counts whats afters masks j) t w)
 
 abbrev μ-loop3 : tie.MeasureT-loop3
-μ-loop3 n cycles counts whats afters masks answer₀ i mi j mj slots t w₀ answer w = resourcesMost - w
+μ-loop3 n cycles counts whats afters masks sets answer₀ i mi j mj slots t w₀ answer w = resourcesMost - w
 
 abbrev Inv-loop2 : tie.InvT-loop2
-Inv-loop2 n cycles counts whats afters masks answer₀ i mi j mj slots t₀ answer t = (answer ≡ Nowhere) × (Low n cycles masks → ClearSlots (bookedAt cycles counts whats afters masks i) (bookedAt cycles counts whats afters masks j) t)
+Inv-loop2 n cycles counts whats afters masks sets answer₀ i mi j mj slots t₀ answer t = (answer ≡ Nowhere) × (Low n cycles masks → ClearSlots (bookedAt cycles counts whats afters masks i) (bookedAt cycles counts whats afters masks j) t)
 
 abbrev μ-loop2 : tie.MeasureT-loop2
-μ-loop2 n cycles counts whats afters masks answer₀ i mi j mj slots t₀ answer t = slots - t
+μ-loop2 n cycles counts whats afters masks sets answer₀ i mi j mj slots t₀ answer t = slots - t
 
 abbrev Inv-loop : tie.InvT-loop
-Inv-loop n cycles counts whats afters masks answer₀ i mi j₀ answer j = (answer ≡ Nowhere) × (i < j) × (Low n cycles masks → ClearHigher (bookedAt cycles counts whats afters masks) i j)
+Inv-loop n cycles counts whats afters masks sets answer₀ i mi j₀ answer j = (answer ≡ Nowhere) × (i < j) × (Low n cycles masks → ClearHigher (bookedAt cycles counts whats afters masks) i j)
 
 abbrev μ-loop : tie.MeasureT-loop
-μ-loop n cycles counts whats afters masks answer₀ i mi j₀ answer j = n - j
+μ-loop n cycles counts whats afters masks sets answer₀ i mi j₀ answer j = n - j
 
 abbrev Inv-found : tie.InvT-found
-Inv-found n cycles counts whats afters masks answer₀ i₀ answer i = (answer ≡ Nowhere) × (Low n cycles masks → ClearLower (bookedAt cycles counts whats afters masks) n i)
+Inv-found n cycles counts whats afters masks sets answer₀ i₀ answer i = (answer ≡ Nowhere) × (Low n cycles masks → ClearLower (bookedAt cycles counts whats afters masks) n i)
 
 abbrev μ-found : tie.MeasureT-found
-μ-found n cycles counts whats afters masks answer₀ i₀ answer i = n - i
+μ-found n cycles counts whats afters masks sets answer₀ i₀ answer i = n - i
+
+slice-aggregate-collect-all : tie.Need-slice-aggregate-collect-all Inv-loop3 μ-loop3 Inv-loop2 μ-loop2 Inv-loop μ-loop Inv-found μ-found
+slice-aggregate-collect-all c = refl
+
+collect-all-requires : tie.Need-collect-all-requires Inv-loop3 μ-loop3 Inv-loop2 μ-loop2 Inv-loop μ-loop Inv-found μ-found
+collect-all-requires c κs = let rows = c .before .before .before .before .before .before .pre .0 in (λ x h. listed (rows .long) (rows .known x h), omega arith)
 
 found-holds : tie.Need-found-holds Inv-loop3 μ-loop3 Inv-loop2 μ-loop2 Inv-loop μ-loop Inv-found μ-found
 found-holds c = (refl, λ l. lower-none)
@@ -55,12 +63,16 @@ mul-mj c = omega arith
 shared-slice-read-mj : tie.Need-shared-slice-read-mj Inv-loop3 μ-loop3 Inv-loop2 μ-loop2 Inv-loop μ-loop Inv-found μ-found
 shared-slice-read-mj c = omega arith
 
-pair-clashes-requires : tie.Need-pair-clashes-requires Inv-loop3 μ-loop3 Inv-loop2 μ-loop2 Inv-loop μ-loop Inv-found μ-found
-pair-clashes-requires c κs =
-    let rows = c .before .before .before .before .before .before .before .before .before .before .before .pre .0 in
-    let lower = rows .known (c .before .before .before .before .before .found .i) (omega arith) in
-    let higher = rows .known (c .before .before .loop .j) (omega arith) in
-    (rows .long, (lower, higher))
+slice-aggregate-clashes-by-sets : tie.Need-slice-aggregate-clashes-by-sets Inv-loop3 μ-loop3 Inv-loop2 μ-loop2 Inv-loop μ-loop Inv-found μ-found
+slice-aggregate-clashes-by-sets c = search needs
+
+clashes-by-sets-requires : tie.Need-clashes-by-sets-requires Inv-loop3 μ-loop3 Inv-loop2 μ-loop2 Inv-loop μ-loop Inv-found μ-found
+clashes-by-sets-requires c κs =
+    let rows = c .before .before .before .before .before .before .before .before .before .before .before .before .before .before .before .pre .0 in
+    let lower = rows .known (c .before .before .before .before .before .before .found .i) (omega arith) in
+    let higher = rows .known (c .before .before .before .loop .j) (omega arith) in
+    let sets = c .before .before .before .before .before .before .before .before .collect-all .ensures in
+    (rows .long, (lower, (higher, (sets .at _ (omega arith), sets .at _ (omega arith)))))
 
 add-j-2 : tie.Need-add-j-2 Inv-loop3 μ-loop3 Inv-loop2 μ-loop2 Inv-loop μ-loop Inv-found μ-found
 add-j-2 c = omega arith
@@ -70,30 +82,30 @@ loop-less c = omega arith
 
 loop-again : tie.Need-loop-again Inv-loop3 μ-loop3 Inv-loop2 μ-loop2 Inv-loop μ-loop Inv-found μ-found
 loop-again c =
-    let rows = c .before .before .before .before .before .before .before .before .before .before .before .before .before .pre .0 in
-    let lower = rows .known (c .before .before .before .before .before .before .before .found .i) (omega arith) in
-    let higher = rows .known (c .before .before .before .before .loop .j) (omega arith) in
-    let clear = rows-skip _ _ _ _ _ _ _ _ lower higher (sym (c .before .pair-clashes .ensures) ∙ not-true _ (c .if1 .taken)) in
-    (c .before .before .before .before .loop .inv .0, omega arith, λ l. higher-more (c .before .before .before .before .loop .inv .2 l) clear)
+    let rows = c .before .before .before .before .before .before .before .before .before .before .before .before .before .before .before .before .before .pre .0 in
+    let lower = rows .known (c .before .before .before .before .before .before .before .before .found .i) (omega arith) in
+    let higher = rows .known (c .before .before .before .before .before .loop .j) (omega arith) in
+    let clear = rows-skip _ _ _ _ _ _ _ _ lower higher (sym (c .before .clashes-by-sets .ensures) ∙ not-true _ (c .if1 .taken)) in
+    (c .before .before .before .before .before .loop .inv .0, omega arith, λ l. higher-more (c .before .before .before .before .before .loop .inv .2 l) clear)
 
 slots-of-requires : tie.Need-slots-of-requires Inv-loop3 μ-loop3 Inv-loop2 μ-loop2 Inv-loop μ-loop Inv-found μ-found
 slots-of-requires c κs =
-    let rows = c .before .before .before .before .before .before .before .before .before .before .before .before .before .pre .0 in
-    let lower = rows .known (c .before .before .before .before .before .before .before .found .i) (omega arith) in
-    let higher = rows .known (c .before .before .before .before .loop .j) (omega arith) in
+    let rows = c .before .before .before .before .before .before .before .before .before .before .before .before .before .before .before .before .before .pre .0 in
+    let lower = rows .known (c .before .before .before .before .before .before .before .before .found .i) (omega arith) in
+    let higher = rows .known (c .before .before .before .before .before .loop .j) (omega arith) in
     ((omega arith, omega arith), (lower .cycle, higher .cycle))
 
 loop2-holds : tie.Need-loop2-holds Inv-loop3 μ-loop3 Inv-loop2 μ-loop2 Inv-loop μ-loop Inv-found μ-found
-loop2-holds c = (c .before .before .before .before .before .loop .inv .0, λ l. slots-none)
+loop2-holds c = (c .before .before .before .before .before .before .loop .inv .0, λ l. slots-none)
 
 loop3-holds : tie.Need-loop3-holds Inv-loop3 μ-loop3 Inv-loop2 μ-loop2 Inv-loop μ-loop Inv-found μ-found
 loop3-holds c = (c .before .loop2 .inv .0, λ l. whats-none)
 
 both-hold-requires : tie.Need-both-hold-requires Inv-loop3 μ-loop3 Inv-loop2 μ-loop2 Inv-loop μ-loop Inv-found μ-found
 both-hold-requires c κs =
-    let rows = c .before .before .before .before .before .before .before .before .before .before .before .before .before .before .before .before .before .before .pre .0 in
-    let lower = rows .known (c .before .before .before .before .before .before .before .before .before .before .before .before .found .i) (omega arith) in
-    let higher = rows .known (c .before .before .before .before .before .before .before .before .before .loop .j) (omega arith) in
+    let rows = c .before .before .before .before .before .before .before .before .before .before .before .before .before .before .before .before .before .before .before .before .before .before .pre .0 in
+    let lower = rows .known (c .before .before .before .before .before .before .before .before .before .before .before .before .before .found .i) (omega arith) in
+    let higher = rows .known (c .before .before .before .before .before .before .before .before .before .before .loop .j) (omega arith) in
     (rows .long, (lower, higher))
 
 add-w : tie.Need-add-w Inv-loop3 μ-loop3 Inv-loop2 μ-loop2 Inv-loop μ-loop Inv-found μ-found
@@ -104,8 +116,8 @@ loop3-less c = omega arith
 
 loop3-again : tie.Need-loop3-again Inv-loop3 μ-loop3 Inv-loop2 μ-loop2 Inv-loop μ-loop Inv-found μ-found
 loop3-again c =
-    let i = c .before .before .before .before .before .before .before .before .before .before .before .before .before .before .found .i in
-    let j = c .before .before .before .before .before .before .before .before .before .before .before .loop .j in
+    let i = c .before .before .before .before .before .before .before .before .before .before .before .before .before .before .before .found .i in
+    let j = c .before .before .before .before .before .before .before .before .before .before .before .before .loop .j in
     let passed = c .before .before .before .loop3 .inv in
     (passed .0, λ l. whats-more (passed .1 l) (sym (c .before .both-hold .ensures .is (l .at i (omega arith)) (l .at j (omega arith))) ∙ c .if2 .left))
 
@@ -127,7 +139,7 @@ loop-less-2 c = omega arith
 loop-again-2 : tie.Need-loop-again-2 Inv-loop3 μ-loop3 Inv-loop2 μ-loop2 Inv-loop μ-loop Inv-found μ-found
 loop-again-2 c =
     let clear = c .before .loop2 .inv in
-    (clear .0, omega arith, λ l. higher-more (c .before .before .before .before .before .before .before .loop .inv .2 l) (rows-all _ _ _ _ _ _ _ _ (clear .1 l) (c .before .before .slots-of .ensures) (omega arith)))
+    (clear .0, omega arith, λ l. higher-more (c .before .before .before .before .before .before .before .before .loop .inv .2 l) (rows-all _ _ _ _ _ _ _ _ (clear .1 l) (c .before .before .slots-of .ensures) (omega arith)))
 
 add-i : tie.Need-add-i Inv-loop3 μ-loop3 Inv-loop2 μ-loop2 Inv-loop μ-loop Inv-found μ-found
 add-i c = omega arith
@@ -143,8 +155,8 @@ returns c = rw (c .before .found .inv .0) (λ q assigned p. sym (nowhere p (c .b
 
 returns-2 : tie.Need-returns-2 Inv-loop3 μ-loop3 Inv-loop2 μ-loop2 Inv-loop μ-loop Inv-found μ-found
 returns-2 c =
-    let lower = c .before .before .before .before .before .before .before .before .before .before .before .before .before .before .found .inv in
-    let higher = c .before .before .before .before .before .before .before .before .before .before .before .loop .inv in
+    let lower = c .before .before .before .before .before .before .before .before .before .before .before .before .before .before .before .found .inv in
+    let higher = c .before .before .before .before .before .before .before .before .before .before .before .before .loop .inv in
     let slots = c .before .before .before .before .before .loop2 .inv in
     let whats = c .before .before .before .loop3 .inv in
     λ q assigned p. sym (somewhere p (lower .1) (higher .2) (slots .1) (whats .1) (higher .1) (omega arith) (c .before .both-hold .ensures) (c .if2 .taken))
@@ -161,6 +173,8 @@ first-clash-spec =
     μ-loop
     Inv-found
     μ-found
+    slice-aggregate-collect-all
+    collect-all-requires
     found-holds
     mul-mi
     shared-slice-read-mi
@@ -168,7 +182,8 @@ first-clash-spec =
     loop-holds
     mul-mj
     shared-slice-read-mj
-    pair-clashes-requires
+    slice-aggregate-clashes-by-sets
+    clashes-by-sets-requires
     add-j-2
     loop-less
     loop-again
