@@ -4,9 +4,7 @@ ghost use Rattle.model.specs.Answers.{faultNumber};
 ghost use Rattle.answers.specs.Handed.{handed};
 use model::Answer;
 use model::Fault;
-
-// What is said for no line.
-const NOWHERE: u32 = 65535;
+use model::NOWHERE;
 
 pub struct Details {
     pub number: u32,

@@ -13,6 +13,7 @@ use model::CYCLE_MOST;
 use model::END_KIND;
 use model::Fault;
 use model::HEAD_SIZE;
+use model::KIND_AT;
 use model::OFFSETS_KIND;
 use model::Step;
 use model::Verdict;
@@ -113,7 +114,7 @@ fn step_at(s: &[u8], n: usize, cycle: usize, demand: usize, k: usize, p: usize) 
     if s.len() - p < HEAD_SIZE {
         return Step::Refused(Fault::Cut, p);
     }
-    let kind = records::word(s, p + 2);
+    let kind = records::word(s, p + KIND_AT);
     if kind == END_KIND {
         return records::end_step(s, p, k < n);
     }

@@ -6,16 +6,28 @@ ghost use lib.ListN.{length};
 ghost use Rattle.model.specs.Sizes.{linesMost, wordEnd};
 ghost use Rattle.model.specs.Reading.{request, judge, lineRows, badIn, badOut, lineVerdict, tableStep, lineAt};
 ghost use Rattle.lined.specs.Parts.{linedOf, lineStart, Is};
+use model::BUFFERS_AT;
 use model::CYCLE_MOST;
 use model::END_KIND;
+use model::FROM_AT;
 use model::Fault;
 use model::HEAD_SIZE;
+use model::IN_AT;
+use model::KIND_AT;
 use model::LINE_BYTES;
 use model::LINE_KIND;
 use model::LINE_SIZE;
+use model::LINE_SPARE_AT;
 use model::LINES_MOST;
+use model::LINK_SIZE;
 use model::LOCAL;
+use model::OUT_AT;
+use model::PERIOD_AT;
+use model::ROUTER_AT;
+use model::ROUTERS_AT;
+use model::SLOT_AT;
 use model::Step;
+use model::TO_AT;
 use model::Verdict;
 use records::Ending;
 use records::byte;
@@ -29,8 +41,7 @@ pub struct Lined {
     pub lines: usize,
 }
 
-// Neither local nor a buffer that leads to the router. The request has its number of buffers at byte
-// 6, and from byte 8 on the two routers of each.
+// Neither local nor a buffer that leads to the router.
 fn bad_in(req: &[u8], router: usize, inp: usize) -> bool
     requires { ⌜ inp < wordEnd ⌝ }
     ensures { λ r. ⌜ r ≡ badIn (request (now (req .entry)) .network) router inp ⌝ }
@@ -38,11 +49,11 @@ fn bad_in(req: &[u8], router: usize, inp: usize) -> bool
     if inp == LOCAL {
         return false;
     }
-    let buffers = word(req, 6);
+    let buffers = word(req, BUFFERS_AT);
     if buffers <= inp {
         return true;
     }
-    let to = byte(req, 9 + 2 * inp);
+    let to = byte(req, TO_AT + LINK_SIZE * inp);
     to != router
 }
 
@@ -51,11 +62,11 @@ fn bad_out(req: &[u8], router: usize, out: usize) -> bool
     requires { ⌜ out < wordEnd ⌝ }
     ensures { λ r. ⌜ r ≡ badOut (request (now (req .entry)) .network) router out ⌝ }
 {
-    let buffers = word(req, 6);
+    let buffers = word(req, BUFFERS_AT);
     if buffers <= out {
         return true;
     }
-    let from = byte(req, 8 + 2 * out);
+    let from = byte(req, FROM_AT + LINK_SIZE * out);
     from != router
 }
 
@@ -84,7 +95,7 @@ fn line_rows(
     if have < HEAD_SIZE + len {
         return Verdict::Faulty(Fault::Cut);
     }
-    let routers = word(req, 4);
+    let routers = word(req, ROUTERS_AT);
     if routers <= router {
         return Verdict::Faulty(Fault::Line);
     }
@@ -115,12 +126,12 @@ fn verdict(req: &[u8], s: &[u8], n: usize, p: usize) -> Verdict
     ensures { λ r. ⌜ r ≡ lineVerdict (request (now (req .entry)) .network) (now (s .entry)) n p ⌝ }
 {
     let len = word(s, p);
-    let router = byte(s, p + 4);
-    let period = byte(s, p + 5);
-    let slot = byte(s, p + 6);
-    let spare = byte(s, p + 7);
-    let inp = word(s, p + 8);
-    let out = word(s, p + 10);
+    let router = byte(s, p + ROUTER_AT);
+    let period = byte(s, p + PERIOD_AT);
+    let slot = byte(s, p + SLOT_AT);
+    let spare = byte(s, p + LINE_SPARE_AT);
+    let inp = word(s, p + IN_AT);
+    let out = word(s, p + OUT_AT);
     line_rows(
         req,
         n,
@@ -143,7 +154,7 @@ fn step_at(req: &[u8], s: &[u8], n: usize, p: usize) -> Step
     if s.len() - p < HEAD_SIZE {
         return Step::Refused(Fault::Cut, p);
     }
-    let kind = word(s, p + 2);
+    let kind = word(s, p + KIND_AT);
     if kind == END_KIND {
         return end_step(s, p, false);
     }
@@ -188,33 +199,33 @@ pub fn router_of(s: &[u8], m: usize) -> usize
     requires { ⌜ m < linesMost ⌝ }
     ensures { λ r. ⌜ Is (lineAt (now (s .entry)) (lineStart m) .router) 256 r ⌝ }
 {
-    byte(s, LINE_BYTES * m + 4)
+    byte(s, LINE_BYTES * m + ROUTER_AT)
 }
 
 pub fn period_of(s: &[u8], m: usize) -> usize
     requires { ⌜ m < linesMost ⌝ }
     ensures { λ r. ⌜ Is (lineAt (now (s .entry)) (lineStart m) .period) 256 r ⌝ }
 {
-    byte(s, LINE_BYTES * m + 5)
+    byte(s, LINE_BYTES * m + PERIOD_AT)
 }
 
 pub fn slot_of(s: &[u8], m: usize) -> usize
     requires { ⌜ m < linesMost ⌝ }
     ensures { λ r. ⌜ Is (lineAt (now (s .entry)) (lineStart m) .slot) 256 r ⌝ }
 {
-    byte(s, LINE_BYTES * m + 6)
+    byte(s, LINE_BYTES * m + SLOT_AT)
 }
 
 pub fn in_of(s: &[u8], m: usize) -> usize
     requires { ⌜ m < linesMost ⌝ }
     ensures { λ r. ⌜ Is (lineAt (now (s .entry)) (lineStart m) .inp) wordEnd r ⌝ }
 {
-    word(s, LINE_BYTES * m + 8)
+    word(s, LINE_BYTES * m + IN_AT)
 }
 
 pub fn out_of(s: &[u8], m: usize) -> usize
     requires { ⌜ m < linesMost ⌝ }
     ensures { λ r. ⌜ Is (lineAt (now (s .entry)) (lineStart m) .out) wordEnd r ⌝ }
 {
-    word(s, LINE_BYTES * m + 10)
+    word(s, LINE_BYTES * m + OUT_AT)
 }

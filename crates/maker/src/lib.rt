@@ -8,8 +8,19 @@ ghost use Rattle.model.specs.Bytes.{word, recordOf};
 ghost use Rattle.mask.specs.Bits.{offsets};
 ghost use Rattle.maker.specs.Pasting.{pasted, Laid};
 ghost use Rattle.maker.specs.Files.{offsetsRecord, AssignmentFits, WroteAssignment, lineRecord, inpAt, hopBytes, offsetBytes, circuitBytes, tableSize, UsesFit, CountsFit, TableFits, WroteTable};
+use model::END_KIND;
+use model::FROM_AT;
+use model::HEAD_SIZE;
+use model::IN_AT;
+use model::KIND_AT;
 use model::LINE_BYTES;
+use model::LINE_KIND;
+use model::LINE_SIZE;
+use model::LINK_SIZE;
 use model::LOCAL;
+use model::OFFSETS_KIND;
+use model::OUT_AT;
+use model::ROUTER_AT;
 use model::USES_MOST;
 
 // The number x in two bytes.
@@ -38,7 +49,7 @@ fn put_head(out: &mut [u8], at: usize, len: usize, kind: usize)
     ensures { λ _. ⌜ now (out .exit) ≡ pasted (now (out .entry)) at (word len ++ word kind) ⌝ }
 {
     put_word(out, at, len);
-    put_word(out, at + 2, kind);
+    put_word(out, at + KIND_AT, kind);
 }
 
 // The end record; and the place behind it.
@@ -46,8 +57,8 @@ fn put_end(out: &mut [u8], at: usize) -> usize
     requires { ⌜ at + headSize ≤ length (now out) ⌝ }
     ensures { λ r. ⌜ Laid (now (out .entry)) at (recordOf endKind []) (now (out .exit)) r ⌝ }
 {
-    put_head(out, at, 0, 5);
-    at + 4
+    put_head(out, at, 0, END_KIND);
+    at + HEAD_SIZE
 }
 
 // The offsets of a mask, rising, a byte for each; and the place behind them.
@@ -72,8 +83,8 @@ fn put_offsets(out: &mut [u8], at: usize, mask: u32) -> usize
     ensures { λ r. ⌜ Laid (now (out .entry)) at (offsetsRecord mask) (now (out .exit)) r ⌝ }
 {
     let len = mask::size(mask) as usize;
-    put_head(out, at, len, 3);
-    put_places(out, at + 4, mask)
+    put_head(out, at, len, OFFSETS_KIND);
+    put_places(out, at + HEAD_SIZE, mask)
 }
 
 // The assignment: an offsets record for each circuit, and the end record. It says how many bytes that is.
@@ -93,10 +104,10 @@ fn put_line(out: &mut [u8], at: usize, router: u8, period: u8, slot: u8, inp: us
     requires { ⌜ at + (headSize + lineSize) ≤ length (now out) ⌝ }
     ensures { λ _. ⌜ now (out .exit) ≡ pasted (now (out .entry)) at (lineRecord router period slot inp to) ⌝ }
 {
-    put_head(out, at, 8, 4);
-    put_four(out, at + 4, router, period, slot, 0);
-    put_word(out, at + 8, inp);
-    put_word(out, at + 10, to);
+    put_head(out, at, LINE_SIZE, LINE_KIND);
+    put_four(out, at + ROUTER_AT, router, period, slot, 0);
+    put_word(out, at + IN_AT, inp);
+    put_word(out, at + OUT_AT, to);
 }
 
 // The inport of hop j: the local one, and then the buffer before.
@@ -115,7 +126,7 @@ pub fn table_size(n: usize, counts: &[usize], masks: &[u32]) -> usize
     requires { ⌜ CountsFit n (now counts) (now masks) ⌝ }
     ensures { λ r. ⌜ r ≡ tableSize n (now (counts .entry)) (now (masks .entry)) ⌝ }
 {
-    let mut total: usize = 4;
+    let mut total = HEAD_SIZE;
     for c in 0..n {
         let slots = mask::size(masks[c]) as usize;
         total += slots * (counts[c] - 1) * LINE_BYTES;
@@ -143,7 +154,7 @@ fn put_hop(
     let u = first + j + 1;
     let to = whats[u];
     let d = cycle as usize;
-    let router = records::byte(req, 8 + 2 * to) as u8;
+    let router = records::byte(req, FROM_AT + LINK_SIZE * to) as u8;
     let slot = ((a as usize + afters[u]) % d) as u8;
     let inp = inport(whats, first, j);
     put_line(out, at, router, cycle as u8, slot, inp, to);

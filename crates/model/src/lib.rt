@@ -22,7 +22,20 @@ pub const LINES_MOST: usize = 4096;
 
 pub const LOCAL: usize = 65535;
 
+// The detail of a refusal that has no line to name.
+pub const NOWHERE: u32 = 65535;
+
 pub const HEAD_SIZE: usize = 4;
+
+// What a network or a circuit has in front of its links or hops.
+pub const COUNTS_SIZE: usize = 4;
+
+pub const LINK_SIZE: usize = 2;
+
+pub const HOP_SIZE: usize = 2;
+
+// A circuit has at least one hop.
+pub const CIRCUIT_LEAST: usize = COUNTS_SIZE + HOP_SIZE;
 
 pub const LINE_SIZE: usize = 8;
 
@@ -38,6 +51,42 @@ pub const OFFSETS_KIND: usize = 3;
 pub const LINE_KIND: usize = 4;
 
 pub const END_KIND: usize = 5;
+
+// Where the parts of a record stand, from its first byte, as specs/Reading.antt has them: of any record its kind,
+pub const KIND_AT: usize = 2;
+
+// of the network its routers, its buffers, and the owner of buffer 0 and the router that this leads to,
+pub const ROUTERS_AT: usize = HEAD_SIZE;
+
+pub const BUFFERS_AT: usize = HEAD_SIZE + 2;
+
+pub const FROM_AT: usize = HEAD_SIZE + COUNTS_SIZE;
+
+pub const TO_AT: usize = FROM_AT + 1;
+
+// of a circuit its numbers and its first hop,
+pub const CYCLE_AT: usize = HEAD_SIZE;
+
+pub const DEMAND_AT: usize = HEAD_SIZE + 1;
+
+pub const HOPS_AT: usize = HEAD_SIZE + 2;
+
+pub const CIRCUIT_SPARE_AT: usize = HEAD_SIZE + 3;
+
+pub const PATH_AT: usize = HEAD_SIZE + COUNTS_SIZE;
+
+// and of a line its numbers.
+pub const ROUTER_AT: usize = HEAD_SIZE;
+
+pub const PERIOD_AT: usize = HEAD_SIZE + 1;
+
+pub const SLOT_AT: usize = HEAD_SIZE + 2;
+
+pub const LINE_SPARE_AT: usize = HEAD_SIZE + 3;
+
+pub const IN_AT: usize = HEAD_SIZE + 4;
+
+pub const OUT_AT: usize = HEAD_SIZE + 6;
 
 pub const REQUEST_FILE: u32 = 1;
 

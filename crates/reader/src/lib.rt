@@ -13,17 +13,31 @@ ghost use Rattle.model.specs.Reading.{samePair, badLink, networkHead, networkVe
 ghost use Rattle.model.specs.Jobs.{requestFault};
 ghost use Rattle.records.specs.Fields.{Byte, Word};
 ghost use Rattle.reader.specs.Parts.{planFor, planOf, sameHop, circuitNumbers, StartsAt, HasLink, CycleIs, DemandIs, HopsIs, HopIs, FromIs, ToIs, BuffersAre, RoutersAre};
+use model::BUFFERS_AT;
 use model::BUFFERS_MOST;
 use model::CIRCUIT_KIND;
+use model::CIRCUIT_LEAST;
+use model::CIRCUIT_SPARE_AT;
 use model::CIRCUITS_MOST;
+use model::COUNTS_SIZE;
+use model::CYCLE_AT;
 use model::CYCLE_MOST;
+use model::DEMAND_AT;
 use model::END_KIND;
+use model::FROM_AT;
 use model::Fault;
 use model::HEAD_SIZE;
+use model::HOP_SIZE;
+use model::HOPS_AT;
 use model::HOPS_MOST;
+use model::KIND_AT;
+use model::LINK_SIZE;
 use model::NETWORK_KIND;
+use model::PATH_AT;
+use model::ROUTERS_AT;
 use model::ROUTERS_MOST;
 use model::Step;
+use model::TO_AT;
 use model::Verdict;
 use records::Ending;
 
@@ -46,10 +60,10 @@ fn network_head(have: usize, len: usize, kind: usize, routers: usize, buffers: u
     if kind != NETWORK_KIND {
         return Verdict::Faulty(Fault::Kind);
     }
-    if len < 4 {
+    if len < COUNTS_SIZE {
         return Verdict::Faulty(Fault::Length);
     }
-    if 4 + 2 * BUFFERS_MOST < len {
+    if COUNTS_SIZE + LINK_SIZE * BUFFERS_MOST < len {
         return Verdict::Faulty(Fault::Length);
     }
     if len % 2 != 0 {
@@ -67,7 +81,7 @@ fn network_head(have: usize, len: usize, kind: usize, routers: usize, buffers: u
     if BUFFERS_MOST < buffers {
         return Verdict::Faulty(Fault::Count);
     }
-    if len != 4 + 2 * buffers {
+    if len != COUNTS_SIZE + LINK_SIZE * buffers {
         return Verdict::Faulty(Fault::Length);
     }
     Verdict::Fine
@@ -78,7 +92,7 @@ fn from_of(s: &[u8], b: usize) -> usize
     requires { ⌜ b < wordEnd ⌝ }
     ensures { λ r. ⌜ Byte (now (s .entry)) (8 + 2 * b) r ⌝ }
 {
-    records::byte(s, 8 + 2 * b)
+    records::byte(s, FROM_AT + LINK_SIZE * b)
 }
 
 // The router that buffer b leads to.
@@ -86,7 +100,7 @@ fn to_of(s: &[u8], b: usize) -> usize
     requires { ⌜ b < wordEnd ⌝ }
     ensures { λ r. ⌜ Byte (now (s .entry)) (9 + 2 * b) r ⌝ }
 {
-    records::byte(s, 9 + 2 * b)
+    records::byte(s, TO_AT + LINK_SIZE * b)
 }
 
 // Buffers a and b have the same pair of routers.
@@ -159,9 +173,9 @@ fn network(s: &[u8]) -> Verdict
     ensures { λ r. ⌜ r ≡ networkVerdict (now (s .entry)) ⌝ }
 {
     let len = records::word(s, 0);
-    let kind = records::word(s, 2);
-    let routers = records::word(s, 4);
-    let buffers = records::word(s, 6);
+    let kind = records::word(s, KIND_AT);
+    let routers = records::word(s, ROUTERS_AT);
+    let buffers = records::word(s, BUFFERS_AT);
     let v = network_head(s.len(), len, kind, routers, buffers);
     if !records::is_fine(v) {
         return v;
@@ -196,7 +210,7 @@ fn circuit_numbers(len: usize, cycle: usize, demand: usize, hops: usize) -> Verd
     if HOPS_MOST < hops {
         return Verdict::Faulty(Fault::Count);
     }
-    if len != 4 + 2 * hops {
+    if len != COUNTS_SIZE + HOP_SIZE * hops {
         return Verdict::Faulty(Fault::Length);
     }
     Verdict::Fine
@@ -217,10 +231,10 @@ fn circuit_head(
     if CIRCUITS_MOST <= n {
         return Verdict::Faulty(Fault::Count);
     }
-    if len < 6 {
+    if len < CIRCUIT_LEAST {
         return Verdict::Faulty(Fault::Length);
     }
-    if 4 + 2 * HOPS_MOST < len {
+    if COUNTS_SIZE + HOP_SIZE * HOPS_MOST < len {
         return Verdict::Faulty(Fault::Length);
     }
     if len % 2 != 0 {
@@ -237,7 +251,7 @@ fn hop(s: &[u8], p: usize, j: usize) -> usize
     requires { ⌜ (p ≤ length (now s)) × (j < wordEnd) ⌝ }
     ensures { λ r. ⌜ Word (now (s .entry)) (p + 8 + 2 * j) r ⌝ }
 {
-    records::word(s, p + 8 + 2 * j)
+    records::word(s, p + PATH_AT + HOP_SIZE * j)
 }
 
 // Hop j has an unknown buffer.
@@ -336,12 +350,12 @@ fn circuit_body(s: &[u8], p: usize) -> Verdict
     requires { ⌜ p ≤ length (now s) ⌝ }
     ensures { λ r. ⌜ r ≡ circuitBody (now (s .entry)) p ⌝ }
 {
-    let spare = records::byte(s, p + 7);
+    let spare = records::byte(s, p + CIRCUIT_SPARE_AT);
     if spare != 0 {
         return Verdict::Faulty(Fault::Value);
     }
-    let hops = records::byte(s, p + 6);
-    let buffers = records::word(s, 6);
+    let hops = records::byte(s, p + HOPS_AT);
+    let buffers = records::word(s, BUFFERS_AT);
     let j = first_bad_hop(s, p, buffers, hops);
     if j < hops {
         return Verdict::Faulty(Fault::Value);
@@ -359,9 +373,9 @@ fn circuit(s: &[u8], n: usize, p: usize) -> Verdict
     ensures { λ r. ⌜ r ≡ circuitVerdict (now (s .entry)) n p ⌝ }
 {
     let len = records::word(s, p);
-    let cycle = records::byte(s, p + 4);
-    let demand = records::byte(s, p + 5);
-    let hops = records::byte(s, p + 6);
+    let cycle = records::byte(s, p + CYCLE_AT);
+    let demand = records::byte(s, p + DEMAND_AT);
+    let hops = records::byte(s, p + HOPS_AT);
     let v = circuit_head(n, s.len() - p, len, cycle, demand, hops);
     if !records::is_fine(v) {
         return v;
@@ -377,7 +391,7 @@ fn step_at(s: &[u8], n: usize, p: usize) -> Step
     if s.len() - p < HEAD_SIZE {
         return Step::Refused(Fault::Cut, p);
     }
-    let kind = records::word(s, p + 2);
+    let kind = records::word(s, p + KIND_AT);
     if kind == END_KIND {
         return records::end_step(s, p, false);
     }
@@ -449,21 +463,21 @@ pub fn cycle_of(s: &[u8], c: usize, a: usize) -> usize
     requires { ⌜ StartsAt (now s) c a ⌝ }
     ensures { λ r. ⌜ CycleIs (request (now (s .entry))) c r ⌝ }
 {
-    records::byte(s, a + 4)
+    records::byte(s, a + CYCLE_AT)
 }
 
 pub fn demand_of(s: &[u8], c: usize, a: usize) -> usize
     requires { ⌜ StartsAt (now s) c a ⌝ }
     ensures { λ r. ⌜ DemandIs (request (now (s .entry))) c r ⌝ }
 {
-    records::byte(s, a + 5)
+    records::byte(s, a + DEMAND_AT)
 }
 
 pub fn hops_of(s: &[u8], c: usize, a: usize) -> usize
     requires { ⌜ StartsAt (now s) c a ⌝ }
     ensures { λ r. ⌜ HopsIs (request (now (s .entry))) c r ⌝ }
 {
-    records::byte(s, a + 6)
+    records::byte(s, a + HOPS_AT)
 }
 
 pub fn hop_of(s: &[u8], c: usize, a: usize, j: usize) -> usize
@@ -494,12 +508,12 @@ pub fn buffers(s: &[u8]) -> usize
     requires { ⌜ requestFault (now s) ≡ none ⌝ }
     ensures { λ r. ⌜ BuffersAre (request (now (s .entry))) r ⌝ }
 {
-    records::word(s, 6)
+    records::word(s, BUFFERS_AT)
 }
 
 pub fn routers(s: &[u8]) -> usize
     requires { ⌜ requestFault (now s) ≡ none ⌝ }
     ensures { λ r. ⌜ RoutersAre (request (now (s .entry))) r ⌝ }
 {
-    records::word(s, 4)
+    records::word(s, ROUTERS_AT)
 }

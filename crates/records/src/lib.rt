@@ -6,6 +6,7 @@ ghost use lib.ListN.{length};
 ghost use Rattle.model.specs.Reading.{onward, endStep, andThen};
 ghost use Rattle.records.specs.Fields.{Byte, Word, isFine};
 use model::Fault;
+use model::HEAD_SIZE;
 use model::Step;
 use model::Verdict;
 
@@ -47,7 +48,7 @@ pub fn past(s: &[u8], p: usize, v: Verdict) -> Step
     match v {
         Verdict::Fine => {
             let len = word(s, p);
-            Step::Next(p + 4 + len)
+            Step::Next(p + HEAD_SIZE + len)
         }
         Verdict::Faulty(f) => Step::Refused(f, p),
     }
@@ -65,8 +66,8 @@ pub fn end_step(s: &[u8], p: usize, early: bool) -> Step
     if len != 0 {
         return Step::Refused(Fault::Length, p);
     }
-    if p + 4 < s.len() {
-        return Step::Refused(Fault::After, p + 4);
+    if p + HEAD_SIZE < s.len() {
+        return Step::Refused(Fault::After, p + HEAD_SIZE);
     }
     Step::End
 }
