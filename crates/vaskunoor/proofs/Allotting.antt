@@ -17,6 +17,7 @@ use Rattle.model.specs.Search.{Reply, slots, full, unfinished, search, reply, w
 use Rattle.model.specs.Reading.{Walked, complete, stopped, requestWalk, request}
 use Rattle.model.specs.Jobs.{Result, Contract, allot, allocate, keeps, writes, settled, requestFault, assignmentSize, assignmentBytes}
 use Rattle.model.specs.declared.Fault.{Fault}
+use Rattle.model.specs.declared.Answer.{Answer}
 use Rattle.model.specs.declared.Answer.the-variants.{Allocated, Damaged, NoRoom, Unfinished, Short}
 use Rattle.model.proofs.Tests.{getD-map}
 use Rattle.model.proofs.Sound.{SoundRequest}
@@ -207,9 +208,9 @@ module _ (s : List ℕ) (p : Plan) (l : Loads s p) (f : Fault) (b : ℕ) (e : p 
   pub refused-byte : b < detailEnd
   refused-byte = request-byte-fits s f b walk-stopped
 
-  pub refused : (budget : ℕ) (old : List ℕ) → Contract (allot s budget old) (Damaged requestFile f b) old
+  pub refused : (budget : ℕ) (old : List ℕ) (r : Answer) → r ≡ Damaged requestFile f b → Contract (allot s budget old) r old
   unfolding allocate _else_
-  refused budget old = met s budget old (keeps old (Damaged requestFile f b)) (rw walk-stopped refl)
+  refused budget old r is = met s budget old (keeps old r) (rw (walk-stopped, is) refl)
 
 -- ---- a file that is whole
 

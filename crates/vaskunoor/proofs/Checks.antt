@@ -39,8 +39,8 @@ use Rattle.vaskunoor.specs.declared.Checked.{Checked}
 pub byte-told : (e : Ending) → ByteFits e → (f : Fault) (p : ℕ) → e ≡ Stopped f p → p < detailEnd
 byte-told e h f p s = h .small f p s
 
-pub damage-told : (file : ℕ) (e : Ending) (f : Fault) (p : ℕ) → e ≡ Stopped f p → some (Damaged file f p) ≡ damageOf file e
-damage-told file e f p s = rw s refl
+pub damage-told : (file : ℕ) (e : Ending) (f : Fault) (p : ℕ) (a : Answer) → e ≡ Stopped f p → a ≡ Damaged file f p → some a ≡ damageOf file e
+damage-told file e f p a s is = ap some is ∙ rw s refl
 
 pub clash-told : (k : Clash) (c d t w : ℕ) → k ≡ At c d t w → some (ClashAnswer c d t w) ≡ clashAnswer k
 clash-told k c d t w s = rw s refl

@@ -7,6 +7,7 @@ use Rattle.model.specs.Sizes.{requestFile, detailEnd}
 use Rattle.model.specs.Tests.{orElse}
 use Rattle.model.specs.Jobs.{Contract, read, readRequest, requestFault}
 use Rattle.model.specs.declared.Fault.{Fault}
+use Rattle.model.specs.declared.Answer.{Answer}
 use Rattle.model.specs.declared.Answer.the-variants.{Done, Damaged}
 use Rattle.records.specs.declared.Ending.the-variants.{Whole, Stopped}
 use Rattle.reader.specs.Parts.{planOf}
@@ -20,9 +21,9 @@ module _ (s : List ℕ) (p : Plan) (e : p ≡ planOf s) where
   unfolding readRequest orElse
   read-whole h = record { answer = rw (reads-of s p e h .whole) refl; area = refl }
 
-  pub read-stopped : (f : Fault) (q : ℕ) → p .ending ≡ Stopped f q → Contract (read s) (Damaged requestFile f q) []
+  pub read-stopped : (f : Fault) (q : ℕ) (r : Answer) → p .ending ≡ Stopped f q → r ≡ Damaged requestFile f q → Contract (read s) r []
   unfolding readRequest orElse
-  read-stopped f q h = record { answer = rw (fault-of s p e f q h) refl; area = refl }
+  read-stopped f q r h is = record { answer = is ∙ rw (fault-of s p e f q h) refl; area = refl }
 
   pub byte-small : (f : Fault) (q : ℕ) → p .ending ≡ Stopped f q → q < detailEnd
   byte-small f q h = byte-fits s p e f q h

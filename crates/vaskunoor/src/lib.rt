@@ -107,6 +107,18 @@ fn load_offsets(
     Offsets { ending, masks }
 }
 
+// The answer to a file that has a fault.
+fn fault_answer(file: u32, fault: Fault, byte: usize) -> Answer
+    requires { ⌜ byte < detailEnd ⌝ }
+    ensures { λ r. ⌜ r ≡ Damaged file fault byte ⌝ }
+{
+    Answer::Damaged {
+        file,
+        fault,
+        byte: byte as u32,
+    }
+}
+
 // Reads a request.
 pub fn read_request(request: &[u8]) -> Answer
     ensures { λ r. ⌜ Contract (read (now (request .entry))) r [] ⌝ }
@@ -115,11 +127,7 @@ pub fn read_request(request: &[u8]) -> Answer
     let ending = plan.ending;
     match ending {
         Ending::Whole => Answer::Done,
-        Ending::Stopped(fault, byte) => Answer::Damaged {
-            file: REQUEST_FILE,
-            fault,
-            byte: byte as u32,
-        },
+        Ending::Stopped(fault, byte) => fault_answer(REQUEST_FILE, fault, byte),
     }
 }
 
@@ -164,11 +172,7 @@ pub fn allocate(request: &[u8], budget: u32, assignment: &mut [u8]) -> Answer
     let plan = load(request);
     let ending = plan.ending;
     if let Ending::Stopped(fault, byte) = ending {
-        return Answer::Damaged {
-            file: REQUEST_FILE,
-            fault,
-            byte: byte as u32,
-        };
+        return fault_answer(REQUEST_FILE, fault, byte);
     }
     let needed = assignment_size(request, plan);
     if assignment.len() < needed {
@@ -217,11 +221,7 @@ fn damaged(file: u32, ending: Ending) -> Refusal
 {
     match ending {
         Ending::Whole => Refusal::Nothing,
-        Ending::Stopped(fault, byte) => Refusal::Told(Answer::Damaged {
-            file,
-            fault,
-            byte: byte as u32,
-        }),
+        Ending::Stopped(fault, byte) => Refusal::Told(fault_answer(file, fault, byte)),
     }
 }
 
@@ -321,18 +321,6 @@ pub fn make_tables(request: &[u8], assignment: &[u8], table: &mut [u8]) -> Answe
 }
 
 // ---- Checking tables.
-
-// The answer to a file that has a fault.
-fn fault_answer(file: u32, fault: Fault, byte: usize) -> Answer
-    requires { ⌜ byte < detailEnd ⌝ }
-    ensures { λ r. ⌜ r ≡ Damaged file fault byte ⌝ }
-{
-    Answer::Damaged {
-        file,
-        fault,
-        byte: byte as u32,
-    }
-}
 
 // What is wrong with the lines of a table, for circuits that do not clash.
 fn check_lines(

@@ -6,6 +6,7 @@ use Rattle.vaskunoor.proofs.allocate.Statement.{statement}
 use Rattle.vaskunoor.proofs.allocate.Tie as tie
 use Rattle.vaskunoor.proofs.allocate.Reads as reads
 use Rattle.vaskunoor.proofs.allocate.Lts as lts
+use Rattle.vaskunoor.proofs.fault_answer.Reads as fault-answer-reads
 use Rattle.maker.proofs.write_assignment.Reads as write-assignment-reads
 use Rattle.vaskunoor.proofs.assignment_size.Reads as assignment-size-reads
 use Rattle.vaskunoor.proofs.load.Reads as load-reads
@@ -17,8 +18,8 @@ load-requires c κs = search needs
 enum-known-ending : tie.Need-enum-known-ending
 enum-known-ending c = search needs
 
-cast-t14 : tie.Need-cast-t14
-cast-t14 c = search refused-byte
+fault-answer-requires : tie.Need-fault-answer-requires
+fault-answer-requires c κs = search refused-byte
 
 returns : tie.Need-returns
 returns c = search refused
@@ -29,8 +30,8 @@ enum-told c = search needs
 assignment-size-requires : tie.Need-assignment-size-requires
 assignment-size-requires c κs = search holds-here
 
-cast-t17 : tie.Need-cast-t17
-cast-t17 c = search needed-small
+cast-t16 : tie.Need-cast-t16
+cast-t16 c = search needed-small
 
 returns-2 : tie.Need-returns-2
 returns-2 c = search too-short
@@ -50,8 +51,8 @@ slice-aggregate-write-assignment c = search needs
 write-assignment-requires : tie.Need-write-assignment-requires
 write-assignment-requires c κs = search room-here
 
-cast-t26 : tie.Need-cast-t26
-cast-t26 c = search written-small
+cast-t25 : tie.Need-cast-t25
+cast-t25 c = search written-small
 
 enum-known-visits-2 : tie.Need-enum-known-visits-2
 enum-known-visits-2 c = search needs
@@ -77,18 +78,18 @@ allocate-spec =
     (tie.spec
     load-requires
     enum-known-ending
-    cast-t14
+    fault-answer-requires
     returns
     enum-told
     assignment-size-requires
-    cast-t17
+    cast-t16
     returns-2
     slice-aggregate-search-slots
     search-slots-requires
     enum-known-visits
     slice-aggregate-write-assignment
     write-assignment-requires
-    cast-t26
+    cast-t25
     enum-known-visits-2
     enum-told-2
     same-length

@@ -5,6 +5,7 @@ use Rattle.vaskunoor.proofs.damaged.Statement.{statement}
 use Rattle.vaskunoor.proofs.damaged.Tie as tie
 use Rattle.vaskunoor.proofs.damaged.Reads as reads
 use Rattle.vaskunoor.proofs.damaged.Lts as lts
+use Rattle.vaskunoor.proofs.fault_answer.Reads as fault-answer-reads
 
 enum-told : tie.Need-enum-told
 enum-told c = search needs
@@ -12,8 +13,8 @@ enum-told c = search needs
 enum-known-ending : tie.Need-enum-known-ending
 enum-known-ending c = search needs
 
-cast-t6 : tie.Need-cast-t6
-cast-t6 c = search byte-told
+fault-answer-requires : tie.Need-fault-answer-requires
+fault-answer-requires c κs = search byte-told
 
 returns : tie.Need-returns
 returns c = search needs
@@ -22,4 +23,4 @@ returns-2 : tie.Need-returns-2
 returns-2 c = search damage-told
 
 pub damaged-spec : {M : Type 1} → statement M
-damaged-spec = tie.close (tie.spec enum-told enum-known-ending cast-t6 returns returns-2)
+damaged-spec = tie.close (tie.spec enum-told enum-known-ending fault-answer-requires returns returns-2)

@@ -5,6 +5,7 @@ use Rattle.vaskunoor.proofs.read_request.Statement.{statement}
 use Rattle.vaskunoor.proofs.read_request.Tie as tie
 use Rattle.vaskunoor.proofs.read_request.Reads as reads
 use Rattle.vaskunoor.proofs.read_request.Lts as lts
+use Rattle.vaskunoor.proofs.fault_answer.Reads as fault-answer-reads
 use Rattle.reader.proofs.read.Reads as read-reads
 
 read-requires : tie.Need-read-requires
@@ -16,8 +17,8 @@ enum-told c = search needs
 enum-known-ending : tie.Need-enum-known-ending
 enum-known-ending c = search needs
 
-cast-t7 : tie.Need-cast-t7
-cast-t7 c = search byte-small
+fault-answer-requires : tie.Need-fault-answer-requires
+fault-answer-requires c κs = search byte-small
 
 returns : tie.Need-returns
 returns c = search read-whole
@@ -27,4 +28,4 @@ returns-2 c = search read-stopped
 
 pub read-request-spec : {M : Type 1} → statement M
 read-request-spec =
-    tie.close (tie.spec read-requires enum-told enum-known-ending cast-t7 returns returns-2)
+    tie.close (tie.spec read-requires enum-told enum-known-ending fault-answer-requires returns returns-2)
