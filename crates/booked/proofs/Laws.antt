@@ -1,25 +1,23 @@
 -- Laws of an offsets record's tests and of the step at its byte, each in the form in which a function's proof asks for it, so that `search`
 -- finds its premises. Assumes nothing.
 use Prim.Native.Nat.{ℕ, zero, suc, _+_, _-_, _≤_, _<_}
-use mathlib.Core.Path.{_≡_, refl, sym, ap, _∙_}
+use mathlib.Core.Path.{_≡_, refl, ap, _∙_}
 use mathlib.Core.Bool.{Bool, true, false, not}
 use mathlib.Core.List.{List}
-use native.Mathlib.Nat.{le-antisymm, not-suc-le-zero}
-use native.Mathlib.Numerals.{add-one}
 use native.Mathlib.Omega.{arith}
-use borrow.Author.Tests.{lt-ltb, le-ltb, le-leb, lt-leb, ne-eqb, not-true, not-false}
-use lib.Dec.{T, ltb, leb}
+use borrow.Author.Tests.{lt-ltb, le-ltb, le-leb, lt-leb, ne-eqb}
+use lib.Dec.{ltb, leb}
 use lib.ListN.{length}
 use Rattle.model.specs.Sizes.{headSize, offsetsKind, endKind}
 use Rattle.model.specs.Tests.{least}
-use Rattle.model.specs.Reading.{andThen, onward, endStep, stepAt, offsetAt, badOffset, offsetsHead}
+use Rattle.model.specs.Reading.{onward, endStep, stepAt, offsetAt, badOffset, offsetsHead}
 use Rattle.model.specs.declared.Fault.the-variants.{Cut, Kind, Offsets}
 use Rattle.model.specs.declared.Verdict.{Verdict}
 use Rattle.model.specs.declared.Verdict.the-variants.{Fine, Faulty}
 use Rattle.model.specs.declared.Step.{Step}
 use Rattle.model.specs.declared.Step.the-variants.{Refused}
-use Rattle.model.proofs.Tests.{eq→T, least-at, least-end, none-below-suc}
 use Rattle.records.specs.Fields.{Byte, Word, isFine}
+use Rattle.records.proofs.Laws.{stays, goes-on}
 use Rattle.booked.specs.Parts.{offsetsBy, stepBy}
 
 -- ---- one offset
@@ -43,51 +41,22 @@ later-offset s p cycle (suc i) offset before o b h ne =
     let at : before ≡ offsetAt s p i = b .is ∙ ap (λ (j : ℕ). offsetAt s p j) e in
     rw (← o .is, ← at, lt-leb cycle offset h) refl
 
--- ---- a loop that looks for the first number that passes
-
--- none below i passes
-pub record Clear (f : ℕ → Bool) (i : ℕ) : Type 0 where
-  pub none : (j : ℕ) → j < i → T (f j) → ⊥
-
-module _ (f : ℕ → Bool) where
-  pub clear-start : Clear f 0
-  clear-start = record { none = λ j h. absurd (not-suc-le-zero h) }
-
-  module _ (i : ℕ) (c : Clear f i) where
-    -- r is what a call that tests i returned
-    pub clear-on : (r : Bool) → r ≡ f i → r ≡ false → Clear f (i + 1)
-    clear-on r e q = record { none = rw add-one (none-below-suc f i (c .none) (λ t. rw (sym e ∙ q) at t)) }
-
-    pub found-here : (n : ℕ) (r : Bool) → i < n → r ≡ f i → r ≡ true → i ≡ least n f
-    found-here n r h e q = sym (least-at n f i h (eq→T (sym e ∙ q)) (c .none))
-
-    pub found-none : (n : ℕ) → i ≤ n → n ≤ i → i ≡ least n f
-    found-none n h g = let e : i ≡ n = le-antisymm h g in e ∙ sym (least-end n f (rw e at (c .none)))
-
 -- ---- the verdict: len is the record's length, v the verdict on its numbers, t what `is_fine` said of that, i the first bad offset
-
-then-faulty : (v w : Verdict) → isFine v ≡ false → v ≡ andThen v w
-then-faulty Fine w e = absurd (eq→T (sym e))
-then-faulty (Faulty f) w e = refl
-
-then-fine : (v w : Verdict) → isFine v ≡ true → w ≡ andThen v w
-then-fine Fine w e = refl
-then-fine (Faulty f) w e = absurd (eq→T e)
 
 module _ (s : List ℕ) (n cycle demand k p len : ℕ) (v : Verdict) (t : Bool) (w : Word s p len)
     (ve : v ≡ offsetsHead k n (length s - p) len demand) (te : t ≡ isFine v) where
   pub head-fault : not t ≡ true → v ≡ offsetsBy n cycle demand s k p
   unfolding offsetsBy
-  head-fault h = rw (← w .is, ← ve) (then-faulty v _ (sym te ∙ not-true t h))
+  head-fault h = rw (← w .is, ← ve) (stays v _ t te h)
 
   module _ (h : not t ≡ false) (i : ℕ) (ie : i ≡ least len (badOffset s p cycle)) where
     pub offset-fault : i < len → Faulty Offsets ≡ offsetsBy n cycle demand s k p
     unfolding offsetsBy
-    offset-fault l = rw (← w .is, ← ve, ← ie, lt-ltb i len l) (then-fine v _ (sym te ∙ not-false t h))
+    offset-fault l = rw (← w .is, ← ve, ← ie, lt-ltb i len l) (goes-on v _ t te h)
 
     pub offsets-fine : len ≤ i → Fine ≡ offsetsBy n cycle demand s k p
     unfolding offsetsBy
-    offsets-fine l = rw (← w .is, ← ve, ← ie, le-ltb i len l) (then-fine v _ (sym te ∙ not-false t h))
+    offsets-fine l = rw (← w .is, ← ve, ← ie, le-ltb i len l) (goes-on v _ t te h)
 
 -- ---- the step: kind is the record's kind
 

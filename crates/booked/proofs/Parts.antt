@@ -1,6 +1,6 @@
 -- Laws for callers: what is known of a file by what `read` returned of it, and of the record at a circuit's byte. Assumes nothing.
 use Prim.Native.Nat.{ℕ, _+_, _-_, _≤_, _<_}
-use mathlib.Core.Path.{_≡_, refl, sym, ap, _∙_}
+use mathlib.Core.Path.{_≡_, sym, ap, _∙_}
 use mathlib.Core.List.{List, []}
 use mathlib.Core.Option.{none}
 use native.Mathlib.Omega.{arith}
@@ -10,8 +10,7 @@ use Rattle.model.specs.Sizes.{circuitsMost, headSize, assignmentFile}
 use Rattle.model.specs.Bytes.{lengthAt}
 use Rattle.model.specs.Network.{Request, circuitOf}
 use Rattle.model.specs.Holding.{offsetsOf}
-use Rattle.model.specs.Reading.{have, Walked, complete, stopped, starts, offsetsVerdict, assignmentWalk, offsetsAt, assignment}
-use Rattle.model.specs.Answers.{damage}
+use Rattle.model.specs.Reading.{have, stopped, starts, offsetsVerdict, assignmentWalk, offsetsAt, assignment}
 use Rattle.model.specs.Jobs.{assignmentFault}
 use Rattle.model.specs.declared.Fault.{Fault}
 use Rattle.model.specs.declared.Verdict.the-variants.{Fine}
@@ -19,18 +18,9 @@ use Rattle.model.proofs.Tests.{same, getD-map}
 use Rattle.model.proofs.Readers.{offsets-free, offsets-tests, offsets-sound}
 use Rattle.records.specs.Fields.{endingOf}
 use Rattle.records.specs.declared.Ending.the-variants.{Whole, Stopped}
+use Rattle.records.proofs.Endings.{ends-whole, ends-stopped}
 use Rattle.booked.specs.Parts.{bookedOf, BookedAt}
 use Rattle.booked.specs.declared.Booked.{Booked}
-
--- ---- how a walk ended
-
-ends-whole : (w : Walked) → endingOf w ≡ Whole → damage assignmentFile w ≡ none
-ends-whole (complete l) e = refl
-ends-whole (stopped f p) e = absurd (let z : _≡_ {A = ℕ} 0 1 = cc in omega arith)
-
-ends-stopped : (w : Walked) (f : Fault) (p : ℕ) → endingOf w ≡ Stopped f p → w ≡ stopped f p
-ends-stopped (complete l) f p e = absurd (let z : _≡_ {A = ℕ} 0 1 = cc in omega arith)
-ends-stopped (stopped g r) f p e = cc
 
 module _ (q : Request) (s : List ℕ) where
   -- a file without a fault has a record for each circuit
@@ -51,7 +41,7 @@ module _ (q : Request) (s : List ℕ) where
 
     module _ (h : b .ending ≡ Whole) where
       pub file-whole : assignmentFault q s ≡ none
-      file-whole = ends-whole (assignmentWalk q s) (sym ending-is ∙ h)
+      file-whole = ends-whole assignmentFile (assignmentWalk q s) (sym ending-is ∙ h)
 
       pub booked-here : (n c a : ℕ) → length (q .circuits) ≡ n → c < n → a ≡ getD (b .at) c 0 → BookedAt q s c a
       unfolding bookedOf

@@ -22,30 +22,22 @@ use Rattle.model.specs.declared.Verdict.the-variants.{Fine}
 use Rattle.model.proofs.Tests.{and→, neg-eq, neg-neg→, getD-map}
 use Rattle.model.proofs.Records.{Row, Comes, walk-comes}
 use Rattle.model.proofs.Readers.{lines-free, line-tests}
-use Rattle.records.specs.Fields.{endingOf}
 use Rattle.records.specs.declared.Ending.the-variants.{Whole, Stopped}
+use Rattle.records.proofs.Endings.{ends-whole, ends-stopped}
 use Rattle.lined.specs.Parts.{linedOf, lineStart, LineIn, LeadsTo, OwnedBy, GoodLine}
 use Rattle.lined.specs.declared.Lined.{Lined}
 use Rattle.lined.proofs.Walking.{passing}
 
 -- ---- what `read` answers
 
-walked-whole : (w : Walked) → endingOf w ≡ Whole → damage tableFile w ≡ none
-walked-whole (complete l) e = refl
-walked-whole (stopped f p) e = let z : _≡_ {A = ℕ} 0 1 = cc in absurd (omega arith)
-
-walked-stopped : (w : Walked) (f : Fault) (p : ℕ) → endingOf w ≡ Stopped f p → w ≡ stopped f p
-walked-stopped (complete l) f p e = let z : _≡_ {A = ℕ} 0 1 = cc in absurd (omega arith)
-walked-stopped (stopped g q) f p e = cc
-
 module _ (net : Network) (s : List ℕ) (r : Lined) (is : r ≡ linedOf net s) where
   -- it is whole: no fault
   pub whole-is : r .ending ≡ Whole → damage tableFile (tableWalk net s) ≡ none
-  whole-is e = walked-whole (tableWalk net s) (sym (ap (λ (x : Lined). x .ending) is) ∙ e)
+  whole-is e = ends-whole tableFile (tableWalk net s) (sym (ap (λ (x : Lined). x .ending) is) ∙ e)
 
   -- it stopped: where, and with which fault
   pub stopped-is : (f : Fault) (p : ℕ) → r .ending ≡ Stopped f p → tableWalk net s ≡ stopped f p
-  stopped-is f p e = walked-stopped (tableWalk net s) f p (sym (ap (λ (x : Lined). x .ending) is) ∙ e)
+  stopped-is f p e = ends-stopped (tableWalk net s) f p (sym (ap (λ (x : Lined). x .ending) is) ∙ e)
 
   pub lines-are : r .lines ≡ length (table net s)
   unfolding table

@@ -1,15 +1,13 @@
--- Laws that the reader's proofs cite: of a loop that looks for the first, and of what each test and each step over a record returns, with just
--- the facts that it uses, as `search` finds them. Assumes nothing.
+-- Laws that the reader's proofs cite: of what each test and each step over a record returns, with just the facts that it uses, as `search`
+-- finds them. Assumes nothing.
 use Prim.Native.Nat.{ℕ, zero, suc, _+_, _*_, _-_, _≤_, _<_}
-use mathlib.Core.Path.{_≡_, refl, sym, ap, ap₂, _∙_}
+use mathlib.Core.Path.{_≡_, refl, ap, ap₂, _∙_}
 use mathlib.Core.Bool.{Bool, true, false, not}
 use mathlib.Core.List.{List}
-use native.Mathlib.Nat.{le-antisymm}
-use native.Mathlib.Numerals.{add-one}
 use native.Mathlib.Omega.{arith}
 use lib.ListN.{length}
-use lib.Dec.{T, eqb, ltb, leb}
-use borrow.Author.Tests.{lt-ltb, le-ltb, le-leb, lt-leb, eq-eqb, ne-eqb, not-true, not-false}
+use lib.Dec.{eqb, ltb, leb}
+use borrow.Author.Tests.{lt-ltb, le-ltb, le-leb, lt-leb, eq-eqb, ne-eqb}
 use Rattle.model.specs.Sizes.{headSize, circuitKind, endKind}
 use Rattle.model.specs.Tests.{_and_, neg, least}
 use Rattle.model.specs.Bytes.{lengthAt}
@@ -19,29 +17,9 @@ use Rattle.model.specs.declared.Verdict.{Verdict}
 use Rattle.model.specs.declared.Verdict.the-variants.{Fine, Faulty}
 use Rattle.model.specs.declared.Step.{Step}
 use Rattle.model.specs.declared.Step.the-variants.{Refused}
-use Rattle.model.proofs.Tests.{eq→T, least-is, least-at, least-end, none-below-suc}
 use Rattle.records.specs.Fields.{Byte, Word, isFine}
+use Rattle.records.proofs.Laws.{stays, goes-on}
 use Rattle.reader.specs.Parts.{sameHop}
-
--- ---- a loop that looks for the first number that passes: `least i p ≡ i` says that none below i does
-
-module _ (p : ℕ → Bool) where
-  none-below : (i : ℕ) → least i p ≡ i → (j : ℕ) → j < i → T (p j) → ⊥
-  none-below i e j h = least-is i p .first j (rw e h)
-
-  pub none-yet : least 0 p ≡ 0
-  unfolding least
-  none-yet = refl
-
-  -- r is what the test of i returned
-  pub found-here : (n i : ℕ) (r : Bool) → i < n → least i p ≡ i → r ≡ p i → r ≡ true → i ≡ least n p
-  found-here n i r h e q t = sym (least-at n p i h (eq→T (sym q ∙ t)) (none-below i e))
-
-  pub none-here : (i : ℕ) (r : Bool) → least i p ≡ i → r ≡ p i → r ≡ false → least (i + 1) p ≡ i + 1
-  none-here i r e q t = rw add-one (least-end (suc i) p (none-below-suc p i (none-below i e) (λ u. rw (sym q ∙ t) at u)))
-
-  pub found-none : (n i : ℕ) → i ≤ n → n ≤ i → least i p ≡ i → i ≡ least n p
-  found-none n i h g e = sym e ∙ ap (λ (k : ℕ). least k p) (le-antisymm h g)
 
 -- ---- the links of the network
 
@@ -108,21 +86,6 @@ module _ (s : List ℕ) (p : ℕ) where
   broken-gap j i r e h g = simp (← e, le-ltb i j h, g)
 
 -- ---- the verdicts on records: t is what `is_fine` returned of v
-
-module _ (v w : Verdict) (t : Bool) (e : t ≡ isFine v) where
-  stays : not t ≡ true → v ≡ andThen v w
-  stays h = go v (sym e ∙ not-true t h)
-    where
-      go : (v : Verdict) → isFine v ≡ false → v ≡ andThen v w
-      go Fine f = absurd (eq→T (sym f))
-      go (Faulty g) f = refl
-
-  goes-on : not t ≡ false → w ≡ andThen v w
-  goes-on h = go v (sym e ∙ not-false t h)
-    where
-      go : (v : Verdict) → isFine v ≡ true → w ≡ andThen v w
-      go Fine f = refl
-      go (Faulty g) f = absurd (eq→T f)
 
 -- the network record: its numbers are read, and v is the verdict on them
 module _ (s : List ℕ) (len kind r b : ℕ) (v : Verdict) (t : Bool) (le : Word s 0 len) (ke : Word s 2 kind) (re : Word s 4 r) (be : Word s 6 b)

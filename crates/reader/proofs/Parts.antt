@@ -1,7 +1,7 @@
 -- What is known of a file that was read, for the callers of the reader and for its own functions: each law has just the facts that it uses, as
 -- `search` finds them. Assumes nothing.
 use Prim.Native.Nat.{ℕ, _+_, _*_, _-_, _^_, _≤_, _<_}
-use mathlib.Core.Path.{_≡_, refl, sym, ap, subst, _∙_}
+use mathlib.Core.Path.{_≡_, sym, ap, subst, _∙_}
 use mathlib.Core.List.{List, _++_}
 use mathlib.Core.Option.{none, some}
 use native.Mathlib.Omega.{arith}
@@ -13,7 +13,7 @@ use mir.Val.{Fits}
 use Rattle.model.specs.Sizes.{circuitsMost, headSize, wordEnd, detailEnd, requestFile}
 use Rattle.model.specs.Bytes.{lengthAt}
 use Rattle.model.specs.Network.{Circuit, circuitOf, noCircuit, hops, hop}
-use Rattle.model.specs.Reading.{have, Walked, complete, stopped, starts, buffersOf, hopsAt, hopAt, circuitAt, circuitVerdict, requestWalk, request}
+use Rattle.model.specs.Reading.{have, stopped, starts, buffersOf, hopsAt, hopAt, circuitAt, circuitVerdict, requestWalk, request}
 use Rattle.model.specs.Answers.{damage}
 use Rattle.model.specs.Jobs.{requestFault}
 use Rattle.model.specs.declared.Fault.{Fault}
@@ -24,6 +24,7 @@ use Rattle.model.proofs.Sound.{SoundPath}
 use Rattle.model.proofs.Readers.{buffers-are, from-is, to-is, circuit-tests, request-free, request-sound, request-byte-fits}
 use Rattle.records.specs.Fields.{Byte, Word, endingOf}
 use Rattle.records.specs.declared.Ending.the-variants.{Whole, Stopped}
+use Rattle.records.proofs.Endings.{ends-whole, ends-stopped}
 use Rattle.reader.specs.Parts.{planOf, Reads, StartsAt, HasLink, CycleIs, DemandIs, HopsIs, HopIs, FromIs, ToIs, BuffersAre, RoutersAre}
 use Rattle.reader.specs.declared.Plan.{Plan}
 
@@ -35,19 +36,11 @@ module _ (s : List ℕ) (p : Plan) (e : p ≡ planOf s) where
   ending-is = ap (λ (x : Plan). x .ending) e
 
   pub reads-of : p .ending ≡ Whole → Reads s p
-  reads-of h = record { plan = e; whole = go (requestWalk s) (sym ending-is ∙ h) }
-    where
-      go : (w : Walked) → endingOf w ≡ Whole → damage requestFile w ≡ none
-      go (complete l) h = refl
-      go (stopped f q) h = absurd (let z : _≡_ {A = ℕ} 0 1 = cc in omega arith)
+  reads-of h = record { plan = e; whole = ends-whole requestFile (requestWalk s) (sym ending-is ∙ h) }
 
   module _ (f : Fault) (q : ℕ) (h : p .ending ≡ Stopped f q) where
     pub stopped-of : requestWalk s ≡ stopped f q
-    stopped-of = go (requestWalk s) (sym ending-is ∙ h)
-      where
-        go : (w : Walked) → endingOf w ≡ Stopped f q → w ≡ stopped f q
-        go (complete l) h = absurd (let z : _≡_ {A = ℕ} 0 1 = cc in omega arith)
-        go (stopped g r) h = cc
+    stopped-of = ends-stopped (requestWalk s) f q (sym ending-is ∙ h)
 
     pub fault-of : requestFault s ≡ some (Damaged requestFile f q)
     fault-of = ap (damage requestFile) stopped-of

@@ -14,19 +14,18 @@ use Rattle.model.specs.Sizes.{circuitsMost, cycleMost, headSize, requestFile, d
 use Rattle.model.specs.Tests.{upTo, sum, given, _else_}
 use Rattle.model.specs.Network.{Circuit, noCircuit, circuitOf}
 use Rattle.model.specs.Search.{Reply, slots, full, unfinished, search, reply, whole}
-use Rattle.model.specs.Reading.{Walked, complete, stopped, requestWalk, request}
+use Rattle.model.specs.Reading.{request}
 use Rattle.model.specs.Jobs.{Result, Contract, allot, allocate, keeps, writes, settled, requestFault, assignmentSize, assignmentBytes}
 use Rattle.model.specs.declared.Fault.{Fault}
 use Rattle.model.specs.declared.Answer.{Answer}
 use Rattle.model.specs.declared.Answer.the-variants.{Allocated, Damaged, NoRoom, Unfinished, Short}
 use Rattle.model.proofs.Tests.{getD-map}
 use Rattle.model.proofs.Sound.{SoundRequest}
-use Rattle.model.proofs.Readers.{request-sound, request-byte-fits}
+use Rattle.model.proofs.Readers.{request-sound}
 use Rattle.model.proofs.Searching.{given-fits, reply-slots}
 use Rattle.model.proofs.Writes.{assignment-length}
 use Rattle.model.proofs.Files.{short-none}
 use Rattle.model.proofs.Details.{details-fit}
-use Rattle.records.specs.Fields.{endingOf}
 use Rattle.records.specs.declared.Ending.the-variants.{Whole, Stopped}
 use Rattle.mask.specs.Bits.{offsets}
 use Rattle.plans.specs.Rows.{Bounded}
@@ -42,6 +41,7 @@ use Rattle.maker.proofs.Lists.{upTo-same, map-by-number, sum-more}
 use Rattle.maker.proofs.Files.{assignment-size}
 use Rattle.vaskunoor.specs.Loaded.{Holds, Loads}
 use Rattle.vaskunoor.specs.declared.Plan.{Plan}
+use Rattle.vaskunoor.proofs.Loading.{request-stops}
 
 -- ---- the bytes of an assignment
 
@@ -198,19 +198,9 @@ met s budget old r e = record { answer = ap (λ (x : Result). x .answer) (sym e)
 -- ---- a file that is refused
 
 module _ (s : List ℕ) (p : Plan) (l : Loads s p) (f : Fault) (b : ℕ) (e : p .ending ≡ Stopped f b) where
-  walk-stopped : requestWalk s ≡ stopped f b
-  walk-stopped = go (requestWalk s) (sym (l .ending) ∙ e)
-    where
-      go : (w : Walked) → endingOf w ≡ Stopped f b → w ≡ stopped f b
-      go (complete m) k = absurd (let z : _≡_ {A = ℕ} 0 1 = cc in omega arith)
-      go (stopped g r) k = cc
-
-  pub refused-byte : b < detailEnd
-  refused-byte = request-byte-fits s f b walk-stopped
-
   pub refused : (budget : ℕ) (old : List ℕ) (r : Answer) → r ≡ Damaged requestFile f b → Contract (allot s budget old) r old
   unfolding allocate _else_
-  refused budget old r is = met s budget old (keeps old r) (rw (walk-stopped, is) refl)
+  refused budget old r is = met s budget old (keeps old r) (rw (request-stops s p l f b e, is) refl)
 
 -- ---- a file that is whole
 

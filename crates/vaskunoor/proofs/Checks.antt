@@ -10,12 +10,12 @@ use Rattle.model.specs.Tests.{_else_, orElse}
 use Rattle.model.specs.Network.{Request}
 use Rattle.model.specs.Holding.{clashFault}
 use Rattle.model.specs.Reading.{Walked, complete, stopped, requestWalk, request, assignmentWalk, assignment}
-use Rattle.model.specs.Answers.{told, damage}
+use Rattle.model.specs.Answers.{damage}
 use Rattle.model.specs.Jobs.{Contract, check, checkAssignment, requestFault, assignmentFault}
 use Rattle.model.specs.declared.Fault.{Fault}
 use Rattle.model.specs.declared.Answer.{Answer}
 use Rattle.model.specs.declared.Answer.the-variants.{Done, Damaged, Clash as ClashAnswer}
-use Rattle.model.proofs.Readers.{request-sound, request-byte-fits, assignment-byte-fits}
+use Rattle.model.proofs.Readers.{request-sound}
 use Rattle.model.proofs.Details.{details-fit}
 use Rattle.records.specs.Fields.{endingOf}
 use Rattle.records.specs.declared.Ending.{Ending}
@@ -33,6 +33,7 @@ use Rattle.vaskunoor.specs.declared.Offsets.{Offsets}
 use Rattle.vaskunoor.specs.declared.Refusal.{Refusal}
 use Rattle.vaskunoor.specs.declared.Refusal.the-variants.{Nothing, Told}
 use Rattle.vaskunoor.specs.declared.Checked.{Checked}
+use Rattle.vaskunoor.proofs.Loading.{request-byte, assignment-byte, numbers-of}
 
 -- ---- one refusal
 
@@ -66,10 +67,6 @@ damage-is : (file : ℕ) (w : Walked) (e : Ending) → e ≡ endingOf w → dama
 damage-is file (complete l) e h = rw h refl
 damage-is file (stopped f p) e h = rw h refl
 
-ends-stopped : (w : Walked) (e : Ending) → e ≡ endingOf w → (f : Fault) (p : ℕ) → e ≡ Stopped f p → w ≡ stopped f p
-ends-stopped (complete l) e h f p s = absurd (let z : _≡_ {A = ℕ} 0 1 = cc in omega arith)
-ends-stopped (stopped g r) e h f p s = cc
-
 passed : (file : ℕ) (e : Ending) (r : Refusal) → refusalOf r ≡ damageOf file e → r ≡ Nothing → e ≡ Whole
 passed file e r h n = go e (sym h ∙ ap refusalOf n)
   where
@@ -81,7 +78,7 @@ passed file e r h n = go e (sym h ∙ ap refusalOf n)
 
 module _ (req : List ℕ) (p : Plan) (g : Loads req p) where
   pub request-fits : ByteFits (p .ending)
-  request-fits = record { small = λ f b s. request-byte-fits req f b (ends-stopped (requestWalk req) (p .ending) (g .ending) f b s) }
+  request-fits = record { small = request-byte req p g }
 
   -- r is what is told of it
   module _ (r : Refusal) (e : refusalOf r ≡ damageOf requestFile (p .ending)) where
@@ -100,9 +97,7 @@ module _ (req : List ℕ) (p : Plan) (g : Loads req p) where
       request-holds = g .holds (passed requestFile (p .ending) r e n)
 
       pub numbers-here : Numbers req (p .circuits) (p .cycles) (p .demands)
-      numbers-here =
-          let h = request-holds in
-          record { fine = h .fine; many = h .many; few = h .few; counts = p .counts; whats = p .whats; afters = p .afters; rows = h .rows }
+      numbers-here = numbers-of req p request-holds
 
       rows-stand : RowsStand (request req) (p .circuits) (p .cycles) (p .counts) (p .whats) (p .afters)
       rows-stand = let h = request-holds in record { sound = request-sound req (h .fine); many = sym (h .many); demands = p .demands; rows = h .rows }
@@ -114,7 +109,7 @@ module _ (req : List ℕ) (p : Plan) (g : Loads req p) where
 
 module _ (q : Request) (n : ℕ) (asg : List ℕ) (o : Offsets) (g : LoadsOffsets q n asg o) where
   pub assignment-fits : ByteFits (o .ending)
-  assignment-fits = record { small = λ f b s. assignment-byte-fits q asg f b (ends-stopped (assignmentWalk q asg) (o .ending) (g .ending) f b s) }
+  assignment-fits = record { small = assignment-byte q n asg o g }
 
   -- r is what is told of it
   module _ (r : Refusal) (e : refusalOf r ≡ damageOf assignmentFile (o .ending)) where

@@ -1,17 +1,17 @@
 -- What is held of a request and an assignment that were loaded, for `search`. Assumes nothing.
-use Prim.Native.Nat.{ℕ, _≤_, _<_}
-use mathlib.Core.Path.{_≡_, refl, sym, ap, _∙_}
+use Prim.Native.Nat.{ℕ, _<_}
+use mathlib.Core.Path.{_≡_, sym, ap, _∙_}
 use mathlib.Core.List.{List}
 use native.Mathlib.Omega.{arith}
 use lib.ListN.{length}
-use Rattle.model.specs.Sizes.{circuitsMost}
+use Rattle.model.specs.Sizes.{circuitsMost, detailEnd}
 use Rattle.model.specs.Network.{Request}
-use Rattle.model.specs.Reading.{request, requestWalk, assignment, assignmentWalk}
-use Rattle.model.proofs.Readers.{request-sound}
+use Rattle.model.specs.Reading.{stopped, request, requestWalk, assignment, assignmentWalk}
+use Rattle.model.proofs.Readers.{request-sound, request-byte-fits, assignment-byte-fits}
 use Rattle.model.specs.declared.Fault.{Fault}
 use Rattle.records.specs.Fields.{endingOf}
-use Rattle.records.specs.declared.Ending.{Ending}
 use Rattle.records.specs.declared.Ending.the-variants.{Whole, Stopped}
+use Rattle.records.proofs.Endings.{ends-stopped}
 use Rattle.reader.specs.Parts.{planOf}
 use Rattle.reader.specs.declared.Plan.{Plan as Read}
 use Rattle.reader.proofs.Parts.{reads-of, count-is, few}
@@ -21,6 +21,7 @@ use Rattle.plans.specs.Rows.{Rows, Starts, Ready, Bookings, Masks}
 use Rattle.plans.proofs.Callers.{starts-of, of-request, booked-long, ready-of, bookings-of}
 use Rattle.vaskunoor.specs.Loaded.{Loads, Holds, Numbers, LoadsOffsets}
 use Rattle.vaskunoor.specs.declared.Plan.{Plan}
+use Rattle.vaskunoor.specs.declared.Offsets.{Offsets}
 
 module _ (s : List ℕ) (p : Read) (e : p ≡ planOf s) where
   ending-is : p .ending ≡ endingOf (requestWalk s)
@@ -39,6 +40,25 @@ module _ (s : List ℕ) (p : Read) (e : p ≡ planOf s) where
   pub load-stopped : (cycles demands counts whats afters : List ℕ) (f : Fault) (b : ℕ) → p .ending ≡ Stopped f b
       → Loads s (record { ending = p .ending; circuits = p .circuits; cycles = cycles; demands = demands; counts = counts; whats = whats; afters = afters })
   load-stopped cycles demands counts whats afters f b h = record { ending = ending-is; holds = λ w. absurd (let z : _≡_ {A = ℕ} 0 1 = cc in omega arith) }
+
+-- ---- a request that was loaded, and an assignment of one
+
+module _ (s : List ℕ) (p : Plan) (l : Loads s p) (f : Fault) (b : ℕ) (h : p .ending ≡ Stopped f b) where
+  pub request-stops : requestWalk s ≡ stopped f b
+  request-stops = ends-stopped (requestWalk s) f b (sym (l .ending) ∙ h)
+
+  pub request-byte : b < detailEnd
+  request-byte = request-byte-fits s f b request-stops
+
+pub numbers-of : (s : List ℕ) (p : Plan) → Holds s p → Numbers s (p .circuits) (p .cycles) (p .demands)
+numbers-of s p h = record { fine = h .fine; many = h .many; few = h .few; counts = p .counts; whats = p .whats; afters = p .afters; rows = h .rows }
+
+module _ (q : Request) (n : ℕ) (s : List ℕ) (o : Offsets) (l : LoadsOffsets q n s o) (f : Fault) (b : ℕ) (h : o .ending ≡ Stopped f b) where
+  pub assignment-stops : assignmentWalk q s ≡ stopped f b
+  assignment-stops = ends-stopped (assignmentWalk q s) f b (sym (l .ending) ∙ h)
+
+  pub assignment-byte : b < detailEnd
+  assignment-byte = assignment-byte-fits q s f b assignment-stops
 
 -- ---- an assignment of a request whose numbers stand in rows: b is what was read of its file
 

@@ -10,16 +10,16 @@ use Rattle.model.specs.Tests.{_else_, orElse}
 use Rattle.model.specs.Network.{Request}
 use Rattle.model.specs.Holding.{clashFault}
 use Rattle.model.specs.Lines.{linesFault}
-use Rattle.model.specs.Reading.{Walked, complete, stopped, requestWalk, request, assignmentWalk, assignment, tableWalk, table}
-use Rattle.model.specs.Answers.{told, damage}
+use Rattle.model.specs.Reading.{stopped, request, assignmentWalk, assignment, tableWalk, table}
+use Rattle.model.specs.Answers.{told}
 use Rattle.model.specs.Jobs.{Contract, verify, checkTables, assignmentFault}
 use Rattle.model.specs.declared.Fault.{Fault}
 use Rattle.model.specs.declared.Answer.{Answer}
 use Rattle.model.specs.declared.Answer.the-variants.{Done, Damaged}
-use Rattle.model.proofs.Readers.{request-sound, request-byte-fits, assignment-byte-fits, table-byte-fits}
+use Rattle.model.proofs.Readers.{request-sound, table-byte-fits}
 use Rattle.model.proofs.Details.{Fit, details-fit}
-use Rattle.records.specs.Fields.{endingOf}
 use Rattle.records.specs.declared.Ending.the-variants.{Whole, Stopped}
+use Rattle.records.proofs.Endings.{ends-whole}
 use Rattle.lined.specs.Parts.{linedOf}
 use Rattle.lined.specs.declared.Lined.{Lined}
 use Rattle.lined.proofs.Parts.{whole-is, stopped-is, lines-are}
@@ -39,6 +39,7 @@ use Rattle.vaskunoor.specs.declared.Refusal.{Refusal}
 use Rattle.vaskunoor.specs.declared.Refusal.the-variants.{Nothing, Told}
 use Rattle.vaskunoor.specs.declared.Plan.{Plan}
 use Rattle.vaskunoor.specs.declared.Offsets.{Offsets}
+use Rattle.vaskunoor.proofs.Loading.{request-stops, numbers-of, assignment-stops}
 
 -- ---- the answer to what a test found
 
@@ -60,36 +61,19 @@ unfolding orDone orElse _else_
 first-fits none g f = record { fit = record { first = omega arith; second = omega arith; third = omega arith; fourth = omega arith } }
 first-fits (some a) g f = record { fit = f }
 
--- ---- how a file ended
-
-ends-whole : (file : ℕ) (w : Walked) → endingOf w ≡ Whole → damage file w ≡ none
-ends-whole file (complete l) e = refl
-ends-whole file (stopped f p) e = absurd (let z : _≡_ {A = ℕ} 0 1 = cc in omega arith)
-
-ends-stopped : (w : Walked) (f : Fault) (b : ℕ) → endingOf w ≡ Stopped f b → w ≡ stopped f b
-ends-stopped (complete l) f b e = absurd (let z : _≡_ {A = ℕ} 0 1 = cc in omega arith)
-ends-stopped (stopped g r) f b e = cc
-
 -- ---- the request: p is what was loaded of it
 
 module _ (req : List ℕ) (p : Plan) (l : Loads req p) where
-  module _ (f : Fault) (b : ℕ) (h : p .ending ≡ Stopped f b) where
-    request-stops : requestWalk req ≡ stopped f b
-    request-stops = ends-stopped (requestWalk req) f b (sym (l .ending) ∙ h)
-
-    pub request-byte : b < detailEnd
-    request-byte = request-byte-fits req f b request-stops
-
-    pub request-damaged : (asg tab : List ℕ) (r : Answer) → r ≡ Damaged requestFile f b → Contract (verify req asg tab) r []
-    unfolding checkTables _else_ orElse
-    request-damaged asg tab r e = record { answer = e ∙ rw request-stops refl; area = refl }
+  pub request-damaged : (f : Fault) (b : ℕ) → p .ending ≡ Stopped f b → (asg tab : List ℕ) (r : Answer) → r ≡ Damaged requestFile f b → Contract (verify req asg tab) r []
+  unfolding checkTables _else_ orElse
+  request-damaged f b h asg tab r e = record { answer = e ∙ rw (request-stops req p l f b h) refl; area = refl }
 
   module _ (w : p .ending ≡ Whole) where
     abbrev held : Holds req p
     held = l .holds w
 
     pub numbers-here : Numbers req (p .circuits) (p .cycles) (p .demands)
-    numbers-here = record { fine = held .fine; many = held .many; few = held .few; counts = p .counts; whats = p .whats; afters = p .afters; rows = held .rows }
+    numbers-here = numbers-of req p held
 
     pub cycles-many : circuitsMost ≡ length (p .cycles)
     cycles-many = sym (held .rows .sized .cycles-long)
@@ -106,16 +90,9 @@ module _ (req : List ℕ) (p : Plan) (l : Loads req p) where
     -- ---- the assignment: o is what was loaded of it
 
     module _ (asg : List ℕ) (o : Offsets) (lo : LoadsOffsets (request req) (p .circuits) asg o) where
-      module _ (f : Fault) (b : ℕ) (h : o .ending ≡ Stopped f b) where
-        assignment-stops : assignmentWalk (request req) asg ≡ stopped f b
-        assignment-stops = ends-stopped (assignmentWalk (request req) asg) f b (sym (lo .ending) ∙ h)
-
-        pub assignment-byte : b < detailEnd
-        assignment-byte = assignment-byte-fits (request req) asg f b assignment-stops
-
-        pub assignment-damaged : (tab : List ℕ) (r : Answer) → r ≡ Damaged assignmentFile f b → Contract (verify req asg tab) r []
-        unfolding checkTables _else_ orElse
-        assignment-damaged tab r e = record { answer = e ∙ rw (held .fine, assignment-stops) refl; area = refl }
+      pub assignment-damaged : (f : Fault) (b : ℕ) → o .ending ≡ Stopped f b → (tab : List ℕ) (r : Answer) → r ≡ Damaged assignmentFile f b → Contract (verify req asg tab) r []
+      unfolding checkTables _else_ orElse
+      assignment-damaged f b h tab r e = record { answer = e ∙ rw (held .fine, assignment-stops (request req) (p .circuits) asg o lo f b h) refl; area = refl }
 
       module _ (wo : o .ending ≡ Whole) where
         assigned-fine : assignmentFault (request req) asg ≡ none

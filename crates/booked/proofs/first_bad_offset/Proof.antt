@@ -1,20 +1,22 @@
 -- `booked::first_bad_offset` meets its contract: no offset before i is bad. Assumes nothing.
 use Prim.Native.Nat.{_≤_, _-_}
+use mathlib.Core.Path.{_≡_}
 use native.Mathlib.Omega.{arith}
 use borrow.Author.Needs.{needs}
 use Rattle.model.specs.Reading.{badOffset}
-use Rattle.booked.proofs.Laws.{Clear, clear-start, clear-on, found-here, found-none}
+use Rattle.model.specs.Tests.{least}
+use Rattle.records.proofs.Firsts.{none-yet, found-here, none-here, found-none}
 use Rattle.booked.proofs.first_bad_offset.Statement.{statement}
 use Rattle.booked.proofs.first_bad_offset.Tie as tie
 
 abbrev Inv-loop : tie.InvT-loop
-Inv-loop s p cycle n i₀ i = (i ≤ n) × Clear (badOffset s p cycle) i
+Inv-loop s p cycle n i₀ i = (i ≤ n) × (least i (badOffset s p cycle) ≡ i)
 
 abbrev μ-loop : tie.MeasureT-loop
 μ-loop s p cycle n i₀ i = n - i
 
 loop-holds : tie.Need-loop-holds Inv-loop μ-loop
-loop-holds c = (omega arith, clear-start _)
+loop-holds c = (omega arith, none-yet _)
 
 bad-offset-requires : tie.Need-bad-offset-requires Inv-loop μ-loop
 bad-offset-requires c κs = search needs
@@ -29,7 +31,7 @@ loop-less : tie.Need-loop-less Inv-loop μ-loop
 loop-less c = omega arith
 
 loop-again : tie.Need-loop-again Inv-loop μ-loop
-loop-again c = (omega arith, search clear-on)
+loop-again c = (omega arith, search none-here)
 
 returns-2 : tie.Need-returns-2 Inv-loop μ-loop
 returns-2 c = search found-none

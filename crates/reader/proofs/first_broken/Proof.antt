@@ -5,7 +5,7 @@ use native.Mathlib.Omega.{arith}
 use borrow.Author.Needs.{needs}
 use Rattle.model.specs.Reading.{brokenAt}
 use Rattle.model.specs.Tests.{least}
-use Rattle.reader.proofs.Laws.{none-yet, found-here, none-here, found-none}
+use Rattle.records.proofs.Firsts.{none-yet, found-here, none-here, found-none}
 use Rattle.reader.proofs.first_broken.Statement.{statement}
 use Rattle.reader.proofs.first_broken.Tie as tie
 

@@ -5,7 +5,7 @@ use native.Mathlib.Omega.{arith}
 use borrow.Author.Needs.{needs}
 use Rattle.model.specs.Tests.{least}
 use Rattle.reader.specs.Parts.{sameHop}
-use Rattle.reader.proofs.Laws.{none-yet, found-here, none-here, found-none}
+use Rattle.records.proofs.Firsts.{none-yet, found-here, none-here, found-none}
 use Rattle.reader.proofs.first_same_hop.Statement.{statement}
 use Rattle.reader.proofs.first_same_hop.Tie as tie
 

@@ -1,6 +1,7 @@
 -- `vaskunoor::allocate` meets its contract. Assumes nothing.
 use mathlib.Core.Path.{refl}
-use Rattle.vaskunoor.proofs.Allotting.{refused-byte, refused, holds-here, too-short, needed-small, no-room, not-finished, room-here, written-small, given-here}
+use Rattle.vaskunoor.proofs.Loading.{request-byte}
+use Rattle.vaskunoor.proofs.Allotting.{refused, holds-here, too-short, needed-small, no-room, not-finished, room-here, written-small, given-here}
 use borrow.Author.Needs.{needs}
 use Rattle.vaskunoor.proofs.allocate.Statement.{statement}
 use Rattle.vaskunoor.proofs.allocate.Tie as tie
@@ -19,7 +20,7 @@ enum-known-ending : tie.Need-enum-known-ending
 enum-known-ending c = search needs
 
 fault-answer-requires : tie.Need-fault-answer-requires
-fault-answer-requires c κs = search refused-byte
+fault-answer-requires c κs = search request-byte
 
 returns : tie.Need-returns
 returns c = search refused

@@ -1,6 +1,7 @@
 -- `vaskunoor::check_tables` meets its contract. Assumes nothing.
 use borrow.Author.Needs.{needs}
-use Rattle.vaskunoor.proofs.Verifying.{request-byte, request-damaged, numbers-here, assignment-byte, assignment-damaged, table-byte, table-damaged, cycles-many, counts-many, whats-many, afters-many, all-read}
+use Rattle.vaskunoor.proofs.Loading.{request-byte, assignment-byte}
+use Rattle.vaskunoor.proofs.Verifying.{request-damaged, numbers-here, assignment-damaged, table-byte, table-damaged, cycles-many, counts-many, whats-many, afters-many, all-read}
 use Rattle.vaskunoor.proofs.check_tables.Statement.{statement}
 use Rattle.vaskunoor.proofs.check_tables.Tie as tie
 use Rattle.vaskunoor.proofs.check_tables.Reads as reads
