@@ -139,6 +139,7 @@ module _ (q : Request) (sound : SoundRequest q) (t : List ℕ) (whole : damage t
     few = table-sound net t whole .few;
     port = port-low;
     period = λ m h. let g = line-good net t m (line-at m h) in record { low = g .some; high = g .short };
+    slot = λ m h. line-good net t m (line-at m h) .slot;
   }
 
   module _ (s : Series) (port : ℕ) (at : AtPort net s port) where

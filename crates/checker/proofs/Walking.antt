@@ -3,6 +3,7 @@ use Prim.Native.Nat.{ℕ, suc, _-_, _%_, _≤_, _<_}
 use mathlib.Core.Path.{_≡_, refl, sym, ap, ap₂, _∙_}
 use mathlib.Core.Bool.{Bool, true, false, not}
 use mathlib.Core.List.{List}
+use native.Mathlib.Nat.{mod-self, mod-eq-of-lt}
 use native.Mathlib.Decide.{decLt}
 use native.Mathlib.Omega.{arith}
 use borrow.Author.Tests.{lt-ltb, le-ltb, eq-eqb, ne-eqb, eqb-true, not-true}
@@ -10,6 +11,8 @@ use lib.ListN.{getD}
 use lib.Dec.{T, ltb, eqb}
 use Rattle.model.specs.Sizes.{resourcesMost}
 use Rattle.model.specs.Tests.{_and_, neg, least}
+use Rattle.model.specs.Divisor.{gcd}
+use Rattle.model.proofs.Divisor.{gcd-step, gcd-zero}
 use Rattle.model.proofs.Tests.{eq→T, least-is, least-at}
 use Rattle.divisor.specs.Common.{Cycle, Common}
 use Rattle.lined.specs.Parts.{Is}
@@ -21,10 +24,20 @@ use Rattle.checker.proofs.Chains.{T-false, Next, next-is, Seen, seen-is
 
 -- ---- a line against a series: period and slot are what was read of it
 
+gcd-self : (a : ℕ) → gcd a a ≡ a
+gcd-self a = gcd-step a a ∙ ap (gcd a) (mod-self a) ∙ gcd-zero a
+
 module _ (t : List ℕ) (m cycle start period slot e f : ℕ) (pe : Is (lineIn t m .period) e period) (se : Is (lineIn t m .slot) f slot) where
   pub agrees-here : (g : ℕ) → Common cycle period g → eqb (start % g) (slot % g) ≡ agreesOf t cycle start m
   unfolding agreesOf
   agrees-here g c = rw (← pe .is, ← se .is, ← c .is) refl
+
+  pub agrees-same : (early : ℕ) → early ≡ start % cycle → period ≡ cycle → lineIn t m .slot < lineIn t m .period → eqb early slot ≡ agreesOf t cycle start m
+  unfolding agreesOf
+  agrees-same early s e l =
+      let below : slot < cycle = omega (arith, l, pe .is, se .is) in
+      let whole : gcd cycle (lineIn t m .period) ≡ cycle = ap (gcd cycle) (sym (pe .is) ∙ e) ∙ gcd-self cycle in
+      rw (s, whole, ← se .is, mod-eq-of-lt below) refl
 
   pub covers-here : cycle % period ≡ 0 → eqb (start % period) slot ≡ coversOf t cycle start m
   unfolding coversOf _and_
@@ -171,7 +184,7 @@ module _ (t : List ℕ) (lines port cycle start : ℕ) where
 
   module _ (one part two m : ℕ) (low : m < lines) where
     pub held-here : (head next : List ℕ) → Linked t lines head next → Cycle cycle → Held t m cycle
-    held-here head next linked good = record { few = omega (arith, linked .tabled .few); cycle-good = good; period-good = linked .tabled .period m low }
+    held-here head next linked good = record { few = omega (arith, linked .tabled .few); cycle-good = good; period-good = linked .tabled .period m low; slot-good = linked .tabled .slot m low }
 
     module _ (head next : List ℕ) (linked : Linked t lines head next) (g : Going one part two m) (m′ : ℕ) (e : m′ ≡ getD next m 0) where
       link-next : Next lines (has t port) (suc m) m′

@@ -50,6 +50,7 @@ pub record Tabled (t : List ℕ) (lines : ℕ) : Type 0 where
   pub few : lines ≤ linesMost
   pub port : (m : ℕ) → m < lines → portAt t m < resourcesMost
   pub period : (m : ℕ) → m < lines → Cycle (lineIn t m .period)
+  pub slot : (m : ℕ) → m < lines → lineIn t m .slot < lineIn t m .period
 
 -- there is room for the chains
 pub record Room (head next : List ℕ) : Type 0 where

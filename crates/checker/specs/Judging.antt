@@ -20,6 +20,7 @@ pub record Held (t : List ℕ) (m cycle : ℕ) : Type 0 where
   pub few : m < linesMost
   pub cycle-good : Cycle cycle
   pub period-good : Cycle (lineIn t m .period)
+  pub slot-good : lineIn t m .slot < lineIn t m .period
 
 module _ (t : List ℕ) where
   -- some slot of the series matches line m; and every slot does

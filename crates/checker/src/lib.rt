@@ -1,7 +1,7 @@
 // The table check behind reading: lines are put into chains by their inports, so that each series is
 // held only against the lines of its own inport. Assumes nothing.
 ghost use mathlib.Core.Path.{_≡_};
-ghost use Prim.Native.Nat.{ℕ, _<_};
+ghost use Prim.Native.Nat.{ℕ, _%_, _<_};
 ghost use mathlib.Core.List.{List};
 ghost use lib.ListN.{length, getD};
 ghost use Rattle.model.specs.Sizes.{cycleMost, linesMost, resourcesMost, wordEnd};
@@ -87,13 +87,18 @@ enum Judged {
     Astray(usize),
 }
 
-// Some slot of the series matches line m.
-fn agrees(t: &[u8], m: usize, cycle: usize, start: usize) -> bool
+// Some slot of the series matches line m. Of the slots of the series `early` is the remainder by its
+// cycle, which settles it for a line of the same period.
+fn agrees(t: &[u8], m: usize, cycle: usize, start: usize, early: usize) -> bool
     requires { ⌜ Held (now t) m cycle ⌝ }
+    requires { ⌜ early ≡ start % cycle ⌝ }
     ensures { λ r. ⌜ r ≡ agreesOf (now (t .entry)) cycle start m ⌝ }
 {
     let period = lined::period_of(t, m);
     let slot = lined::slot_of(t, m);
+    if period == cycle {
+        return early == slot;
+    }
     let g = divisor::common(cycle, period);
     start % g == slot % g
 }
@@ -141,6 +146,7 @@ fn meeting(
     requires { ⌜ (port < resourcesMost) × Cycle cycle ⌝ }
     ensures { λ r. ⌜ r ≡ metBy (now (t .entry)) lines port cycle start ⌝ }
 {
+    let early = start % cycle;
     let mut one = lines;
     let mut part = lines;
     let mut two = lines;
@@ -148,7 +154,7 @@ fn meeting(
     while m < lines {
         let here = m;
         m = wide(next[here]);
-        let meets = agrees(t, here, cycle, start);
+        let meets = agrees(t, here, cycle, start, early);
         if !meets {
             continue;
         }

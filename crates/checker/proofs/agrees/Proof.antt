@@ -1,5 +1,5 @@
 -- `checker::agrees` meets its contract. Assumes nothing.
-use Rattle.checker.proofs.Walking.{agrees-here}
+use Rattle.checker.proofs.Walking.{agrees-here, agrees-same}
 use borrow.Author.Needs.{needs}
 use Rattle.checker.proofs.agrees.Statement.{statement}
 use Rattle.checker.proofs.agrees.Tie as tie
@@ -10,6 +10,9 @@ period-of-requires c κs = search needs
 slot-of-requires : tie.Need-slot-of-requires
 slot-of-requires c κs = search needs
 
+returns : tie.Need-returns
+returns c = search agrees-same
+
 common-requires : tie.Need-common-requires
 common-requires c κs = search needs
 
@@ -19,10 +22,17 @@ rem-result c = search needs
 rem-result-2 : tie.Need-rem-result-2
 rem-result-2 c = search needs
 
-returns : tie.Need-returns
-returns c = search agrees-here
+returns-2 : tie.Need-returns-2
+returns-2 c = search agrees-here
 
 pub agrees-spec : {M : Type 1} → statement M
 agrees-spec =
     tie.close
-    (tie.spec period-of-requires slot-of-requires common-requires rem-result rem-result-2 returns)
+    (tie.spec
+    period-of-requires
+    slot-of-requires
+    returns
+    common-requires
+    rem-result
+    rem-result-2
+    returns-2)

@@ -1,5 +1,6 @@
 -- `checker::meeting` meets its contract: what was seen of the lines before m. Assumes nothing.
 use Prim.Native.Nat.{_-_}
+use mathlib.Core.Path.{refl}
 use native.Mathlib.Omega.{arith}
 use borrow.Author.Needs.{needs}
 use Rattle.checker.proofs.Walking.{Going, going-none, held-here, going-less, going-past, going-on, going-all}
@@ -13,10 +14,13 @@ use Rattle.checker.proofs.note.Reads as note-reads
 use Rattle.checker.proofs.wide.Reads as wide-reads
 
 abbrev Inv-loop : tie.InvT-loop
-Inv-loop t lines head next port cycle start one₀ part₀ two₀ m₀ one part two m = Going t lines port cycle start one part two m
+Inv-loop t lines head next port cycle start early one₀ part₀ two₀ m₀ one part two m = Going t lines port cycle start one part two m
 
 abbrev μ-loop : tie.MeasureT-loop
-μ-loop t lines head next port cycle start one₀ part₀ two₀ m₀ one part two m = lines - m
+μ-loop t lines head next port cycle start early one₀ part₀ two₀ m₀ one part two m = lines - m
+
+rem-early : tie.Need-rem-early Inv-loop μ-loop
+rem-early c = search needs
 
 mul-wide : tie.Need-mul-wide Inv-loop μ-loop
 mul-wide c = omega arith
@@ -40,7 +44,7 @@ wide-requires-2 : tie.Need-wide-requires-2 Inv-loop μ-loop
 wide-requires-2 c κs = search needs
 
 agrees-requires : tie.Need-agrees-requires Inv-loop μ-loop
-agrees-requires c κs = search held-here
+agrees-requires c κs = (search held-here, refl)
 
 loop-less : tie.Need-loop-less Inv-loop μ-loop
 loop-less c = search going-less
@@ -75,6 +79,7 @@ meeting-spec =
     (tie.spec
     Inv-loop
     μ-loop
+    rem-early
     mul-wide
     shared-slice-read-wide
     wide-requires
