@@ -1,5 +1,4 @@
 -- What the answers of the layers below are in the words of the jobs. Assumes nothing.
-pub mod Loading
 pub mod Jobs
 pub mod Allotting
 pub mod Checks

@@ -20,9 +20,9 @@ use Rattle.model.specs.declared.Answer.the-variants.{Made, Short}
 use Rattle.model.proofs.Details.{details-fit}
 use Rattle.maker.specs.Files.{CountsFit, TableFits, tableSize, Wrote, WroteTable}
 use Rattle.maker.proofs.Tables.{rows-fit, table-size}
-use Rattle.vaskunoor.specs.Checked.{refusalOf, refusing, Checks}
-use Rattle.vaskunoor.specs.declared.Refusal.the-variants.{Nothing, Told}
-use Rattle.vaskunoor.specs.declared.Checked.{Checked}
+use Rattle.jobs.specs.Checked.{refusalOf, refusing, Checks}
+use Rattle.jobs.specs.declared.Refusal.the-variants.{Nothing, Told}
+use Rattle.jobs.specs.declared.Checked.{Checked}
 
 -- ---- the job, by what speaks against it and by the room that there is
 

@@ -7,7 +7,7 @@ use Rattle.vaskunoor.proofs.make_tables.Reads as reads
 use Rattle.vaskunoor.proofs.make_tables.Lts as lts
 use Rattle.maker.proofs.table_size.Reads as table-size-reads
 use Rattle.maker.proofs.write_table.Reads as write-table-reads
-use Rattle.vaskunoor.proofs.check_both.Reads as check-both-reads
+use Rattle.jobs.proofs.check_both.Reads as check-both-reads
 
 check-both-requires : tie.Need-check-both-requires
 check-both-requires c κs = search needs

@@ -1,11 +1,11 @@
--- `vaskunoor::assignment_size` meets its contract: the sum over the circuits so far, which stays small. Assumes nothing.
+-- `jobs::assignment_size` meets its contract: the sum over the circuits so far, which stays small. Assumes nothing.
 use Prim.Native.Nat.{_-_}
 use native.Mathlib.Omega.{arith}
-use Rattle.vaskunoor.proofs.Allotting.{Counted, counted-start, counted-more, counted-end, place-low, demand-fits, record-fits, total-fits}
-use Rattle.vaskunoor.proofs.assignment_size.Statement.{statement}
-use Rattle.vaskunoor.proofs.assignment_size.Tie as tie
-use Rattle.vaskunoor.proofs.assignment_size.Reads as reads
-use Rattle.vaskunoor.proofs.assignment_size.Lts as lts
+use Rattle.jobs.proofs.Allotting.{Counted, counted-start, counted-more, counted-end, place-low, demand-fits, record-fits, total-fits}
+use Rattle.jobs.proofs.assignment_size.Statement.{statement}
+use Rattle.jobs.proofs.assignment_size.Tie as tie
+use Rattle.jobs.proofs.assignment_size.Reads as reads
+use Rattle.jobs.proofs.assignment_size.Lts as lts
 
 abbrev Inv-loop : tie.InvT-loop
 Inv-loop request n demands total₀ c₀ total c = Counted n demands total c

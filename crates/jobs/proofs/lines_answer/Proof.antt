@@ -1,12 +1,12 @@
--- `vaskunoor::lines_answer` meets its contract. Assumes nothing.
+-- `jobs::lines_answer` meets its contract. Assumes nothing.
 use borrow.Author.Needs.{needs}
 use mathlib.Core.Path.{ap}
 use Rattle.checker.specs.Checks.{checkedAnswer}
-use Rattle.vaskunoor.proofs.Verifying.{fits-of, found-is, nothing-is}
-use Rattle.vaskunoor.proofs.lines_answer.Statement.{statement}
-use Rattle.vaskunoor.proofs.lines_answer.Tie as tie
-use Rattle.vaskunoor.proofs.lines_answer.Reads as reads
-use Rattle.vaskunoor.proofs.lines_answer.Lts as lts
+use Rattle.jobs.proofs.Verifying.{fits-of, found-is, nothing-is}
+use Rattle.jobs.proofs.lines_answer.Statement.{statement}
+use Rattle.jobs.proofs.lines_answer.Tie as tie
+use Rattle.jobs.proofs.lines_answer.Reads as reads
+use Rattle.jobs.proofs.lines_answer.Lts as lts
 
 enum-told : tie.Need-enum-told
 enum-told c = search needs

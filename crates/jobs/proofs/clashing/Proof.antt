@@ -1,10 +1,10 @@
--- `vaskunoor::clashing` meets its contract. Assumes nothing.
+-- `jobs::clashing` meets its contract. Assumes nothing.
 use borrow.Author.Needs.{needs}
-use Rattle.vaskunoor.proofs.Checks.{details, clash-told}
-use Rattle.vaskunoor.proofs.clashing.Statement.{statement}
-use Rattle.vaskunoor.proofs.clashing.Tie as tie
-use Rattle.vaskunoor.proofs.clashing.Reads as reads
-use Rattle.vaskunoor.proofs.clashing.Lts as lts
+use Rattle.jobs.proofs.Checks.{details, clash-told}
+use Rattle.jobs.proofs.clashing.Statement.{statement}
+use Rattle.jobs.proofs.clashing.Tie as tie
+use Rattle.jobs.proofs.clashing.Reads as reads
+use Rattle.jobs.proofs.clashing.Lts as lts
 
 enum-known-clash : tie.Need-enum-known-clash
 enum-known-clash c = search needs

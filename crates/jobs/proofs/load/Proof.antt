@@ -1,11 +1,11 @@
--- `vaskunoor::load` meets its contract. Assumes nothing.
+-- `jobs::load` meets its contract. Assumes nothing.
 use borrow.Author.Needs.{needs}
 use mathlib.Core.Path.{refl}
-use Rattle.vaskunoor.proofs.Loading.{starts-here, load-whole, load-stopped}
-use Rattle.vaskunoor.proofs.load.Statement.{statement}
-use Rattle.vaskunoor.proofs.load.Tie as tie
-use Rattle.vaskunoor.proofs.load.Reads as reads
-use Rattle.vaskunoor.proofs.load.Lts as lts
+use Rattle.jobs.proofs.Loading.{starts-here, load-whole, load-stopped}
+use Rattle.jobs.proofs.load.Statement.{statement}
+use Rattle.jobs.proofs.load.Tie as tie
+use Rattle.jobs.proofs.load.Reads as reads
+use Rattle.jobs.proofs.load.Lts as lts
 use Rattle.plans.proofs.decode.Reads as decode-reads
 use Rattle.reader.proofs.read.Reads as read-reads
 

@@ -19,9 +19,9 @@ use Rattle.booked.specs.Parts.{OfRequest, bookedOf}
 use Rattle.booked.specs.declared.Booked.{Booked}
 use Rattle.plans.specs.Rows.{Rows, Starts, Ready, Bookings, Masks}
 use Rattle.plans.proofs.Callers.{starts-of, of-request, booked-long, ready-of, bookings-of}
-use Rattle.vaskunoor.specs.Loaded.{Loads, Holds, Numbers, LoadsOffsets}
-use Rattle.vaskunoor.specs.declared.Plan.{Plan}
-use Rattle.vaskunoor.specs.declared.Offsets.{Offsets}
+use Rattle.jobs.specs.Loaded.{Loads, Holds, Numbers, LoadsOffsets}
+use Rattle.jobs.specs.declared.Plan.{Plan}
+use Rattle.jobs.specs.declared.Offsets.{Offsets}
 
 module _ (s : List ℕ) (p : Read) (e : p ≡ planOf s) where
   ending-is : p .ending ≡ endingOf (requestWalk s)

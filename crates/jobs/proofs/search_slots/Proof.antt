@@ -1,11 +1,11 @@
--- `vaskunoor::search_slots` meets its contract. Assumes nothing.
+-- `jobs::search_slots` meets its contract. Assumes nothing.
 use mathlib.Core.Path.{refl}
-use Rattle.vaskunoor.proofs.Allotting.{lent-here, ready-here, replies-here}
+use Rattle.jobs.proofs.Allotting.{lent-here, ready-here, replies-here}
 use borrow.Author.Needs.{needs}
-use Rattle.vaskunoor.proofs.search_slots.Statement.{statement}
-use Rattle.vaskunoor.proofs.search_slots.Tie as tie
-use Rattle.vaskunoor.proofs.search_slots.Reads as reads
-use Rattle.vaskunoor.proofs.search_slots.Lts as lts
+use Rattle.jobs.proofs.search_slots.Statement.{statement}
+use Rattle.jobs.proofs.search_slots.Tie as tie
+use Rattle.jobs.proofs.search_slots.Reads as reads
+use Rattle.jobs.proofs.search_slots.Lts as lts
 use Rattle.clash.proofs.fill.Reads as fill-reads
 use Rattle.search.proofs.allot.Reads as allot-reads
 

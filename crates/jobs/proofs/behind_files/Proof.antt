@@ -1,14 +1,14 @@
--- `vaskunoor::behind_files` meets its contract. Assumes nothing.
+-- `jobs::behind_files` meets its contract. Assumes nothing.
 use borrow.Author.Needs.{needs}
-use Rattle.vaskunoor.proofs.Verifying.{rows-lent, masks-long, clash-small, clash-told, lines-good, rows-ready, lines-fits, lines-told}
-use Rattle.vaskunoor.proofs.behind_files.Statement.{statement}
-use Rattle.vaskunoor.proofs.behind_files.Tie as tie
-use Rattle.vaskunoor.proofs.behind_files.Reads as reads
-use Rattle.vaskunoor.proofs.behind_files.Lts as lts
+use Rattle.jobs.proofs.Verifying.{rows-lent, masks-long, clash-small, clash-told, lines-good, rows-ready, lines-fits, lines-told}
+use Rattle.jobs.proofs.behind_files.Statement.{statement}
+use Rattle.jobs.proofs.behind_files.Tie as tie
+use Rattle.jobs.proofs.behind_files.Reads as reads
+use Rattle.jobs.proofs.behind_files.Lts as lts
 use Rattle.clash.proofs.first_clash.Reads as first-clash-reads
-use Rattle.vaskunoor.proofs.check_lines.Reads as check-lines-reads
-use Rattle.vaskunoor.proofs.clashing.Reads as clashing-reads
-use Rattle.vaskunoor.proofs.lines_answer.Reads as lines-answer-reads
+use Rattle.jobs.proofs.check_lines.Reads as check-lines-reads
+use Rattle.jobs.proofs.clashing.Reads as clashing-reads
+use Rattle.jobs.proofs.lines_answer.Reads as lines-answer-reads
 
 first-clash-requires : tie.Need-first-clash-requires
 first-clash-requires c κs = (search rows-lent, search masks-long)

@@ -18,9 +18,9 @@ use Rattle.records.specs.declared.Ending.the-variants.{Whole, Stopped}
 use Rattle.clash.specs.declared.Clash.{Clash}
 use Rattle.clash.specs.declared.Clash.the-variants.{At}
 use Rattle.maker.specs.Files.{Stands}
-use Rattle.vaskunoor.specs.declared.Refusal.{Refusal}
-use Rattle.vaskunoor.specs.declared.Refusal.the-variants.{Nothing, Told}
-use Rattle.vaskunoor.specs.declared.Checked.{Checked}
+use Rattle.jobs.specs.declared.Refusal.{Refusal}
+use Rattle.jobs.specs.declared.Refusal.the-variants.{Nothing, Told}
+use Rattle.jobs.specs.declared.Checked.{Checked}
 
 -- ---- a refusal, and where it comes from
 

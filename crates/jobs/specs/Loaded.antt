@@ -12,8 +12,8 @@ use Rattle.records.specs.Fields.{endingOf}
 use Rattle.records.specs.declared.Ending.the-variants.{Whole}
 use Rattle.plans.specs.Rows.{Rows, Masks}
 use Rattle.checker.specs.Checks.{Facts}
-use Rattle.vaskunoor.specs.declared.Plan.{Plan}
-use Rattle.vaskunoor.specs.declared.Offsets.{Offsets}
+use Rattle.jobs.specs.declared.Plan.{Plan}
+use Rattle.jobs.specs.declared.Offsets.{Offsets}
 
 -- the rows of a request without a fault
 pub record Holds (s : List ℕ) (p : Plan) : Type 0 where

@@ -1,11 +1,11 @@
--- `vaskunoor::load_offsets` meets its contract. Assumes nothing.
+-- `jobs::load_offsets` meets its contract. Assumes nothing.
 use borrow.Author.Needs.{needs}
 use mathlib.Core.Path.{refl}
-use Rattle.vaskunoor.proofs.Loading.{ready-here, offsets-whole, offsets-stopped}
-use Rattle.vaskunoor.proofs.load_offsets.Statement.{statement}
-use Rattle.vaskunoor.proofs.load_offsets.Tie as tie
-use Rattle.vaskunoor.proofs.load_offsets.Reads as reads
-use Rattle.vaskunoor.proofs.load_offsets.Lts as lts
+use Rattle.jobs.proofs.Loading.{ready-here, offsets-whole, offsets-stopped}
+use Rattle.jobs.proofs.load_offsets.Statement.{statement}
+use Rattle.jobs.proofs.load_offsets.Tie as tie
+use Rattle.jobs.proofs.load_offsets.Reads as reads
+use Rattle.jobs.proofs.load_offsets.Lts as lts
 use Rattle.booked.proofs.read.Reads as read-reads
 use Rattle.plans.proofs.fill_masks.Reads as fill-masks-reads
 

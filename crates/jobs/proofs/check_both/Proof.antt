@@ -1,15 +1,15 @@
--- `vaskunoor::check_both` meets its contract. Assumes nothing.
+-- `jobs::check_both` meets its contract. Assumes nothing.
 use borrow.Author.Needs.{needs}
-use Rattle.vaskunoor.proofs.Checks.{request-fits, numbers-here, assignment-fits, lent-here, masks-long, clash-fits, both-checked, assignment-refused, request-refused}
-use Rattle.vaskunoor.proofs.check_both.Statement.{statement}
-use Rattle.vaskunoor.proofs.check_both.Tie as tie
-use Rattle.vaskunoor.proofs.check_both.Reads as reads
-use Rattle.vaskunoor.proofs.check_both.Lts as lts
+use Rattle.jobs.proofs.Checks.{request-fits, numbers-here, assignment-fits, lent-here, masks-long, clash-fits, both-checked, assignment-refused, request-refused}
+use Rattle.jobs.proofs.check_both.Statement.{statement}
+use Rattle.jobs.proofs.check_both.Tie as tie
+use Rattle.jobs.proofs.check_both.Reads as reads
+use Rattle.jobs.proofs.check_both.Lts as lts
 use Rattle.clash.proofs.first_clash.Reads as first-clash-reads
-use Rattle.vaskunoor.proofs.clashing.Reads as clashing-reads
-use Rattle.vaskunoor.proofs.damaged.Reads as damaged-reads
-use Rattle.vaskunoor.proofs.load.Reads as load-reads
-use Rattle.vaskunoor.proofs.load_offsets.Reads as load-offsets-reads
+use Rattle.jobs.proofs.clashing.Reads as clashing-reads
+use Rattle.jobs.proofs.damaged.Reads as damaged-reads
+use Rattle.jobs.proofs.load.Reads as load-reads
+use Rattle.jobs.proofs.load_offsets.Reads as load-offsets-reads
 
 load-requires : tie.Need-load-requires
 load-requires c κs = search needs

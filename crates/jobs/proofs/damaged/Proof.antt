@@ -1,11 +1,11 @@
--- `vaskunoor::damaged` meets its contract. Assumes nothing.
+-- `jobs::damaged` meets its contract. Assumes nothing.
 use borrow.Author.Needs.{needs}
-use Rattle.vaskunoor.proofs.Checks.{byte-told, damage-told}
-use Rattle.vaskunoor.proofs.damaged.Statement.{statement}
-use Rattle.vaskunoor.proofs.damaged.Tie as tie
-use Rattle.vaskunoor.proofs.damaged.Reads as reads
-use Rattle.vaskunoor.proofs.damaged.Lts as lts
-use Rattle.vaskunoor.proofs.fault_answer.Reads as fault-answer-reads
+use Rattle.jobs.proofs.Checks.{byte-told, damage-told}
+use Rattle.jobs.proofs.damaged.Statement.{statement}
+use Rattle.jobs.proofs.damaged.Tie as tie
+use Rattle.jobs.proofs.damaged.Reads as reads
+use Rattle.jobs.proofs.damaged.Lts as lts
+use Rattle.jobs.proofs.fault_answer.Reads as fault-answer-reads
 
 enum-told : tie.Need-enum-told
 enum-told c = search needs
