@@ -1,11 +1,11 @@
 # What people expect: run, test, bench.
 .PHONY: run test bench
 
-# The main job: prove every crate that changed and run the programs, among them the worked cases of document 01.
+# The main job: books the slots of a small net, with the programs proved and built first where they are not there yet.
 run:
-	rt check
+	@sh tests/first
 
-# Everything that is claimed, from nothing: proofs, must-fail edits, programs.
+# Everything that is claimed, from nothing: proofs, must-fail edits, programs, boot code in C, and the comparison with a Rust host.
 test:
 	sh tests/run
 

@@ -99,6 +99,7 @@ static void apart(struct plan *p) {
 
 /* ---- the search */
 
+enum { ROUNDS = 10 };
 static struct plain_search plain;
 
 static void search(const char *name, const struct plan *p, uint32_t budget) {
@@ -106,7 +107,8 @@ static void search(const char *name, const struct plan *p, uint32_t budget) {
     double best = 1e9, plain_best = 1e9;
     uint32_t number = 0;
     int found = 0;
-    for (int round = 0; round < 10; round++) {
+    for (int round = 0; round < ROUNDS; round++) {
+        fprintf(stderr, "\r%s: round %d of %d", name, round + 1, ROUNDS);
         double t = now();
         number = vaskunoor_allocate(request, request_size, budget, assignment, sizeof assignment, details, sizeof details);
         t = now() - t;
@@ -120,6 +122,7 @@ static void search(const char *name, const struct plan *p, uint32_t budget) {
         t = now() - t;
         if (t < plain_best) plain_best = t;
     }
+    fprintf(stderr, "\n");
     if (plain.visits != detail(0) || number != (found < 0 ? 11u : 10u)) { printf("%s: the two disagree\n", name); exit(1); }
     printf("%s: answer %u, %u visits; proved %.3f s, %.1f million visits a second; plain %.3f s, %.1f; share %.2f\n", name, number,
            detail(0), best, detail(0) / best / 1e6, plain_best, detail(0) / plain_best / 1e6, plain_best / best);

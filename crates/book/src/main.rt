@@ -1,0 +1,46 @@
+// The booking program: reads a request from standard input, allocates slots with a budget of 1,000,000 visits, makes the table and
+// writes its lines; or writes what was refused. Assumes what crate io assumes of the system's calls.
+use libc::STDIN_FILENO;
+use model::Answer;
+
+const BUDGET: u32 = 1_000_000;
+
+fn main() {
+    let mut request = io::buffer();
+    let size = io::read_full(STDIN_FILENO, &mut request);
+    book(&request[..size]);
+}
+
+fn book(request: &[u8]) {
+    let mut assignment = io::buffer();
+    match vaskunoor::allocate(request, BUDGET, &mut assignment) {
+        Answer::Allocated { visits, bytes } => {
+            make(request, &assignment, bytes, visits);
+        }
+        refusal => {
+            say::refused(refusal);
+        }
+    }
+}
+
+// Makes the table of the assignment, which is the first `size` bytes of its area.
+fn make(request: &[u8], area: &[u8], size: u32, visits: u32) {
+    let written = io::count(size as isize, area);
+    let mut table = io::large_buffer();
+    match vaskunoor::make_tables(request, &area[..written], &mut table) {
+        Answer::Made { bytes } => {
+            show(&table, bytes, visits);
+        }
+        refusal => {
+            say::refused(refusal);
+        }
+    }
+}
+
+fn show(area: &[u8], size: u32, visits: u32) {
+    let written = io::count(size as isize, area);
+    say::counted(b"done visits ", visits as usize);
+    say::counted(b" lines ", say::line_count(written));
+    say::text(b"\n");
+    say::lines(&area[..written]);
+}
