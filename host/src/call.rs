@@ -1,5 +1,6 @@
 //! A call as data, and its answer by the plain program. Assumes that a job looks only at those parts of a call that are its own.
-use crate::plain::{self, number, Told};
+use crate::number;
+use crate::plain::{self, Told};
 
 pub const DETAILS_SIZE: usize = 16;
 

@@ -3,7 +3,8 @@
 use crate::call::{Answer, Call, Job, DETAILS_SIZE};
 use crate::draw::{file_set, FileSet};
 use crate::library::Library;
-use crate::plain::{self, number, Judgement};
+use crate::number;
+use crate::plain::{self, Judgement};
 use crate::random::Random;
 use crate::tally::Tally;
 

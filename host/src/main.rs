@@ -1,22 +1,7 @@
 //! `host compare [--seed N] [--files N] [--case K]`: compares the five jobs of the proved library with an independent program on random
 //! files. Assumes the library as library.rs does. The last line is 'N passed, M failed', and the exit status is 0 only where M is 0.
-mod call;
-mod compare;
-mod damage;
-mod draw;
-mod library;
-#[cfg(test)]
-mod long;
-mod model;
-mod named;
-mod plain;
-mod random;
-mod shim;
-mod tally;
-#[cfg(test)]
-mod tried;
-
-use library::Library;
+use host::compare;
+use host::library::Library;
 use std::env;
 use std::process::ExitCode;
 

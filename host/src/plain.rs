@@ -7,33 +7,11 @@ mod search;
 mod tables;
 
 use crate::model::{assignment_file, table_file, Assignment, Line, Request, HEAD_SIZE};
+use crate::number;
 pub use search::{search, Found};
 
 pub use run::Judgement;
 pub use tables::needed_lines;
-
-/// The numbers handed back.
-pub mod number {
-    pub const DONE: u32 = 0;
-    pub const CUT: u32 = 1;
-    pub const KIND: u32 = 2;
-    pub const LENGTH: u32 = 3;
-    pub const COUNT: u32 = 4;
-    pub const VALUE: u32 = 5;
-    pub const PATH: u32 = 6;
-    pub const AFTER_END: u32 = 7;
-    pub const OFFSETS: u32 = 8;
-    pub const LINE: u32 = 9;
-    pub const NO_ROOM: u32 = 10;
-    pub const UNFINISHED: u32 = 11;
-    pub const CLASH: u32 = 12;
-    pub const NO_LINE: u32 = 13;
-    pub const IN_PART: u32 = 14;
-    pub const TWO_LINES: u32 = 15;
-    pub const ELSEWHERE: u32 = 16;
-    pub const TOO_SHORT: u32 = 17;
-    pub const HOW_MANY: usize = 18;
-}
 
 /// A number and its four details.
 #[derive(Clone, Copy, PartialEq, Debug)]

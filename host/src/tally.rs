@@ -1,6 +1,7 @@
 //! Counts what was compared and what disagreed, and says so. Assumes that a number passes only where it was met.
 use crate::call::{Call, Job, DETAILS_SIZE};
-use crate::plain::{number, Judgement};
+use crate::number;
+use crate::plain::Judgement;
 
 #[derive(Default)]
 pub struct Tally {

@@ -171,7 +171,7 @@ pub struct Checked {
 }
 
 // What the reading of a file came to.
-pub fn damaged(file: u32, ending: Ending) -> Refusal
+fn damaged(file: u32, ending: Ending) -> Refusal
     requires { ⌜ ByteFits ending ⌝ }
     ensures { λ r. ⌜ refusalOf r ≡ damageOf file ending ⌝ }
 {
@@ -182,7 +182,7 @@ pub fn damaged(file: u32, ending: Ending) -> Refusal
 }
 
 // What the search for a clash came to.
-pub fn clashing(clash: Clash) -> Refusal
+fn clashing(clash: Clash) -> Refusal
     requires { ⌜ ClashFits clash ⌝ }
     ensures { λ r. ⌜ refusalOf r ≡ clashAnswer clash ⌝ }
 {
@@ -240,7 +240,7 @@ pub fn check_both(request: &[u8], assignment: &[u8]) -> Checked
 // ---- Checking tables.
 
 // What is wrong with the lines of a table, for circuits that do not clash.
-pub fn check_lines(
+fn check_lines(
     n: usize,
     cycles: &[u32],
     counts: &[usize],
@@ -272,7 +272,7 @@ pub fn check_lines(
 }
 
 // The answer to lines of which this was found.
-pub fn lines_answer(x: checker::Checked) -> Answer
+fn lines_answer(x: checker::Checked) -> Answer
     requires { ⌜ Fits (checkedAnswer x) ⌝ }
     ensures { λ r. ⌜ r ≡ orDone (checkedAnswer x) ⌝ }
 {

@@ -1,6 +1,7 @@
 //! Reads the three files, record by record, to what they say or to the first refusal. Assumes nothing of their bytes.
-use super::{number, Told};
+use super::Told;
 use crate::model::*;
+use crate::number;
 
 type Read<T> = Result<T, Told>;
 

@@ -1,6 +1,7 @@
 //! The lines that an assignment needs, and what a table does for each series, by walking slots. Assumes files that read.
-use super::{number, Told};
+use super::Told;
 use crate::model::{common_cycle, Assignment, Line, Request};
+use crate::number;
 
 /// One circuit, offset and hop: packets stand before the hop's buffer in slot `offset + hop` and every cycle later.
 pub struct Series {

@@ -1,0 +1,20 @@
+//! The numbers handed back, by the names of include/vaskunoor.h, which says what their details are. Assumes nothing.
+pub const DONE: u32 = 0;
+pub const CUT: u32 = 1;
+pub const KIND: u32 = 2;
+pub const LENGTH: u32 = 3;
+pub const COUNT: u32 = 4;
+pub const VALUE: u32 = 5;
+pub const PATH: u32 = 6;
+pub const AFTER_END: u32 = 7;
+pub const OFFSETS: u32 = 8;
+pub const LINE: u32 = 9;
+pub const NO_ROOM: u32 = 10;
+pub const UNFINISHED: u32 = 11;
+pub const CLASH: u32 = 12;
+pub const NO_LINE: u32 = 13;
+pub const IN_PART: u32 = 14;
+pub const TWO_LINES: u32 = 15;
+pub const ELSEWHERE: u32 = 16;
+pub const TOO_SHORT: u32 = 17;
+pub const HOW_MANY: usize = 18;
