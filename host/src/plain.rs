@@ -1,5 +1,5 @@
 //! The five jobs by plain means: slots are walked where document 01 has laws about them. Assumes nothing of the bytes it is given, and is
-//! written from document 01 alone, so that it shares nothing with the proved library that it is compared with.
+//! written from document 01 and not from crates/, so that it shares no code with the proved library that it is compared with.
 mod holding;
 mod reading;
 mod run;
