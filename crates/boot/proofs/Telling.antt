@@ -11,8 +11,8 @@ use Rattle.model.specs.Jobs.{Call, Contract, resultOf}
 use Rattle.model.specs.declared.Answer.{Answer}
 use Rattle.answers.specs.Handed.{handed}
 use Rattle.answers.specs.declared.Details.{Details}
-use Rattle.maker.specs.Pasting.{pasted}
-use Rattle.maker.proofs.Pastes.{pasted-then, pasted-over}
+use Rattle.writer.specs.Pasting.{pasted}
+use Rattle.writer.proofs.Pastes.{pasted-then, pasted-over}
 use Rattle.boot.specs.Face.{detailsSize, tooShort, long, detailBytes, faced, Face}
 
 -- an area that is written over from the front to its end

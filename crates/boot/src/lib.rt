@@ -5,7 +5,7 @@ ghost use Prim.Native.Nat.{_+_, _≤_};
 ghost use lib.ListN.{length};
 ghost use Rattle.model.specs.Answers.{told};
 ghost use Rattle.model.specs.Jobs.{read, allot, check, make, verify};
-ghost use Rattle.maker.specs.Pasting.{pasted};
+ghost use Rattle.writer.specs.Pasting.{pasted};
 ghost use Rattle.boot.specs.Face.{Face, detailsSize, detailBytes, long};
 use model::Answer;
 

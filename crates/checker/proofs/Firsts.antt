@@ -16,9 +16,9 @@ use Rattle.model.proofs.Tests.{eq→T, first-none, first-at}
 use Rattle.mask.specs.Bits.{offsets, Lowest}
 use Rattle.mask.proofs.Laws.{offsets-zero}
 use Rattle.plans.specs.Rows.{placeOf}
-use Rattle.checker.specs.Judging.{judgedOf, judgedAnswer}
+use Rattle.series.specs.Judging.{judgedOf, judgedAnswer}
 use Rattle.checker.specs.Checks.{checkedAnswer, fine, firstIn, hopFault, offsetFault, circuitFault, rowFault}
-use Rattle.checker.specs.declared.Judged.{Judged}
+use Rattle.series.specs.declared.Judged.{Judged}
 use Rattle.checker.specs.declared.Checked.{Checked}
 use Rattle.checker.specs.declared.Checked.the-variants.{Fine, Unserved, Partly, Twice, Astray}
 

@@ -27,10 +27,10 @@ use Rattle.lined.specs.Parts.{LineIn, LeadsTo, GoodLine}
 use Rattle.lined.proofs.Parts.{line-is, line-good}
 use Rattle.plans.specs.Rows.{usesOf, useOf, placeOf}
 use Rattle.plans.proofs.Uses.{uses-are, use-first, use-hop}
-use Rattle.checker.specs.Chains.{portOf, portAt, lineIn, has, Tabled}
-use Rattle.checker.specs.Judging.{agreesOf, coversOf, meetsAt, partAt, oneOf, againAt, metBy, judgedOf, judgedAnswer}
+use Rattle.chains.specs.Chains.{portOf, portAt, lineIn, has, Tabled}
+use Rattle.series.specs.Judging.{agreesOf, coversOf, meetsAt, partAt, oneOf, againAt, metBy, judgedOf, judgedAnswer}
 use Rattle.checker.specs.Checks.{firstIn, hopFault, offsetFault, circuitFault, rowFault, Row, Ready, Facts}
-use Rattle.checker.specs.declared.Judged.the-variants.{Fine, Unserved, Partly, Twice, Astray}
+use Rattle.series.specs.declared.Judged.the-variants.{Fine, Unserved, Partly, Twice, Astray}
 
 -- ---- tests and searches that agree
 

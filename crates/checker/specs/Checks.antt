@@ -17,7 +17,7 @@ use Rattle.model.proofs.Sound.{SoundRequest}
 use Rattle.divisor.specs.Common.{Cycle}
 use Rattle.mask.specs.Bits.{offsets}
 use Rattle.plans.specs.Rows.{placeOf, Rows, Masks}
-use Rattle.checker.specs.Judging.{judgedOf, judgedAnswer}
+use Rattle.series.specs.Judging.{judgedOf, judgedAnswer}
 use Rattle.checker.specs.declared.Checked.{Checked}
 use Rattle.checker.specs.declared.Checked.the-variants.{Fine, Unserved, Partly, Twice, Astray}
 

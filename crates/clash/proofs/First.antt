@@ -21,8 +21,9 @@ use Rattle.model.proofs.Clashing.{holds→, →holds, →clashes, turned, Holds
 use Rattle.model.proofs.Sound.{uses-small}
 use Rattle.model.proofs.Checking.{clash-none, clash-first}
 use Rattle.divisor.specs.Common.{Cycle}
-use Rattle.clash.specs.Bookings.{Known, bookingAt, BothIs, Planned, bookedAt}
-use Rattle.clash.proofs.Booked.{booking-planned, low-planned}
+use Rattle.pairs.specs.Bookings.{Known, bookingAt, Planned, bookedAt}
+use Rattle.pairs.proofs.Booked.{booking-planned, low-planned}
+use Rattle.clash.specs.Held.{BothIs}
 
 -- ---- two circuits
 

@@ -19,10 +19,11 @@ use Rattle.divisor.specs.Common.{Cycle}
 use Rattle.mask.specs.Bits.{bit, offsets}
 use Rattle.mask.proofs.Laws.{offsets-in, offsets-below}
 use Rattle.plans.specs.Rows.{usesMost}
-use Rattle.clash.specs.Differences.{ahead, useAt, usesAt, heldBy}
-use Rattle.clash.specs.Bookings.{Known, bookingAt, HoldsIs, BothIs}
-use Rattle.clash.proofs.Ahead.{ahead-low, ahead-back}
-use Rattle.clash.proofs.Marking.{any-zero, any-more}
+use Rattle.pairs.specs.Differences.{ahead, useAt, usesAt}
+use Rattle.pairs.specs.Bookings.{Known, bookingAt}
+use Rattle.pairs.proofs.Ahead.{ahead-low, ahead-back}
+use Rattle.pairs.proofs.Marking.{any-zero, any-more}
+use Rattle.clash.specs.Held.{heldBy, HoldsIs, BothIs}
 
 pub bool-same : (a b : Bool) → (T a → T b) → (T b → T a) → a ≡ b
 bool-same true b to back = sym (T→eq b (to tt))

@@ -9,7 +9,7 @@ use Rattle.model.specs.declared.Answer.{Answer}
 use Rattle.model.specs.declared.Answer.the-variants.{Clash as ClashAnswer}
 use Rattle.clash.specs.declared.Clash.{Clash}
 use Rattle.clash.specs.declared.Clash.the-variants.{At, Nowhere}
-use Rattle.clash.specs.Bookings.{Planned}
+use Rattle.pairs.specs.Bookings.{Planned}
 
 abbrev pub clashAnswer : Clash → Option Answer
 clashAnswer (At lower higher slot what) = some (ClashAnswer lower higher slot what)

@@ -1,5 +1,3 @@
--- When circuits clash, by differences of offsets, and how rows of numbers stand for what is asked. Assumes nothing: these are definitions.
-pub mod Differences
-pub mod Bookings
+-- Where a plan first clashes, and which circuits hold a resource. Assumes nothing: these are definitions.
+pub mod Held
 pub mod Answers
-pub mod Sets

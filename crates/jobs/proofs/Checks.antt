@@ -21,18 +21,18 @@ use Rattle.records.specs.Fields.{endingOf}
 use Rattle.records.specs.declared.Ending.{Ending}
 use Rattle.records.specs.declared.Ending.the-variants.{Whole, Stopped}
 use Rattle.plans.specs.Rows.{Masks}
-use Rattle.clash.specs.Bookings.{Lent, Stands as RowsStand}
+use Rattle.pairs.specs.Bookings.{Lent, Stands as RowsStand}
 use Rattle.clash.specs.Answers.{clashAnswer, FirstIs}
 use Rattle.clash.specs.declared.Clash.{Clash}
 use Rattle.clash.specs.declared.Clash.the-variants.{At}
-use Rattle.clash.proofs.Booked.{lent}
-use Rattle.jobs.specs.Loaded.{Loads, Holds, Numbers, LoadsOffsets}
+use Rattle.pairs.proofs.Booked.{lent}
+use Rattle.loading.specs.Loaded.{Loads, Holds, Numbers, LoadsOffsets}
 use Rattle.jobs.specs.Checked.{refusalOf, damageOf, ByteFits, ClashFits, refusing, Checks}
-use Rattle.jobs.specs.declared.Plan.{Plan}
-use Rattle.jobs.specs.declared.Offsets.{Offsets}
+use Rattle.loading.specs.declared.Plan.{Plan}
+use Rattle.loading.specs.declared.Offsets.{Offsets}
 use Rattle.jobs.specs.declared.Refusal.{Refusal}
 use Rattle.jobs.specs.declared.Refusal.the-variants.{Nothing, Told}
-use Rattle.jobs.proofs.Loading.{request-byte, assignment-byte, numbers-of}
+use Rattle.loading.proofs.Loading.{request-byte, assignment-byte, numbers-of}
 
 -- ---- one refusal
 

@@ -16,16 +16,15 @@ use Rattle.model.specs.Jobs.{Contract, verify, checkTables}
 use Rattle.model.specs.declared.Answer.{Answer}
 use Rattle.model.specs.declared.Answer.the-variants.{Done}
 use Rattle.model.proofs.Details.{Fit, details-fit}
-use Rattle.clash.specs.Bookings.{Lent, Stands}
+use Rattle.pairs.specs.Bookings.{Lent, Stands}
 use Rattle.clash.specs.Answers.{clashAnswer, FirstIs}
 use Rattle.clash.specs.declared.Clash.{Clash}
-use Rattle.clash.proofs.Booked.{lent}
-use Rattle.checker.specs.Chains.{Tabled}
+use Rattle.pairs.proofs.Booked.{lent}
+use Rattle.chains.specs.Chains.{Tabled}
 use Rattle.checker.specs.Checks.{checkedAnswer, Ready, Facts}
 use Rattle.checker.specs.declared.Checked.{Checked}
 use Rattle.checker.proofs.Standing.{ready, lines-fit}
-use Rattle.jobs.specs.Loaded.{AllRead}
-use Rattle.jobs.specs.Checked.{ClashFits, refusalOf}
+use Rattle.jobs.specs.Checked.{ClashFits, refusalOf, AllRead}
 use Rattle.jobs.specs.Told.{orDone, Fits}
 use Rattle.jobs.specs.declared.Refusal.{Refusal}
 use Rattle.jobs.specs.declared.Refusal.the-variants.{Nothing, Told}

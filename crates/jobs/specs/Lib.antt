@@ -1,4 +1,3 @@
--- What the public calls hold of their files, and how what was found is answered. Assumes nothing: these are definitions.
-pub mod Loaded
+-- What speaks against files that were read, and how it is answered. Assumes nothing: these are definitions.
 pub mod Told
 pub mod Checked

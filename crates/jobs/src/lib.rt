@@ -1,155 +1,25 @@
-// What the public calls are made of: files put into rows, the parts of each job, and how what was found
-// is answered. Assumes nothing.
+// The checks of an assignment and of a table: what speaks against them, and how it is answered. Assumes nothing.
 ghost use mathlib.Core.Path.{_≡_};
-ghost use Prim.Native.Nat.{ℕ, _<_};
+ghost use Prim.Native.Nat.{ℕ};
 ghost use mathlib.Core.List.{List, []};
-ghost use lib.ListN.{length};
-ghost use Rattle.model.specs.Sizes.{circuitsMost, detailEnd};
 ghost use Rattle.model.specs.Network.{Request};
 ghost use Rattle.model.specs.Lines.{linesFault};
-ghost use Rattle.model.specs.Search.{reply, whole};
 ghost use Rattle.model.specs.Reading.{table};
-ghost use Rattle.model.specs.Jobs.{Contract, verify, assignmentSize};
-ghost use Rattle.model.specs.declared.Answer.the-variants.{Damaged};
+ghost use Rattle.model.specs.Jobs.{Contract, verify};
 ghost use Rattle.clash.specs.Answers.{clashAnswer};
-ghost use Rattle.search.specs.Code.{Replies};
-ghost use Rattle.checker.specs.Chains.{Tabled};
+ghost use Rattle.chains.specs.Chains.{Tabled};
 ghost use Rattle.checker.specs.Checks.{checkedAnswer, Ready, Facts};
-ghost use Rattle.jobs.specs.Loaded.{Loads, Holds, Numbers, LoadsOffsets, AllRead, requestOf};
-ghost use Rattle.jobs.specs.Checked.{ByteFits, ClashFits, refusalOf, damageOf, Checks};
+ghost use Rattle.jobs.specs.Checked.{ByteFits, ClashFits, refusalOf, damageOf, Checks, AllRead};
 ghost use Rattle.jobs.specs.Told.{orDone, Fits};
 use clash::Clash;
 use model::ASSIGNMENT_FILE;
 use model::Answer;
 use model::CIRCUITS_MOST;
-use model::CYCLE_MOST;
-use model::Fault;
-use model::HEAD_SIZE;
 use model::LINES_MOST;
 use model::REQUEST_FILE;
 use model::RESOURCES_MOST;
 use model::USES_MOST;
 use records::Ending;
-use search::Allotted;
-
-// A request as rows of numbers, where its file has no fault.
-pub struct Plan {
-    pub ending: Ending,
-    pub circuits: usize,
-    pub cycles: [u32; CIRCUITS_MOST],
-    pub demands: [u32; CIRCUITS_MOST],
-    pub counts: [usize; CIRCUITS_MOST],
-    pub whats: [usize; CIRCUITS_MOST * USES_MOST],
-    pub afters: [usize; CIRCUITS_MOST * USES_MOST],
-}
-
-// The offsets of an assignment, where its file has no fault.
-pub struct Offsets {
-    pub ending: Ending,
-    pub masks: [u32; CIRCUITS_MOST],
-}
-
-// Reads a request into rows.
-pub fn load(request: &[u8]) -> Plan
-    ensures { λ r. ⌜ Loads (now (request .entry)) r ⌝ }
-{
-    let plan = reader::read(request);
-    let ending = plan.ending;
-    let n = plan.circuits;
-    let at = plan.at;
-    let mut cycles = [0u32; CIRCUITS_MOST];
-    let mut demands = [0u32; CIRCUITS_MOST];
-    let mut counts = [0usize; CIRCUITS_MOST];
-    let mut whats = [0usize; CIRCUITS_MOST * USES_MOST];
-    let mut afters = [0usize; CIRCUITS_MOST * USES_MOST];
-    if let Ending::Whole = ending {
-        plans::decode(
-            request,
-            n,
-            &at,
-            &mut cycles,
-            &mut demands,
-            &mut counts,
-            &mut whats,
-            &mut afters,
-        );
-    }
-    Plan {
-        ending,
-        circuits: n,
-        cycles,
-        demands,
-        counts,
-        whats,
-        afters,
-    }
-}
-
-// Reads the assignment of a request into masks.
-pub fn load_offsets(
-    request: &[u8],
-    n: usize,
-    cycles: &[u32],
-    demands: &[u32],
-    assignment: &[u8],
-) -> Offsets
-    requires { ⌜ Numbers (now request) n (now cycles) (now demands) ⌝ }
-    ensures { λ r. ⌜ LoadsOffsets (requestOf (now (request .entry))) n (now (assignment .entry)) r ⌝ }
-{
-    let booked = booked::read(assignment, n, cycles, demands);
-    let ending = booked.ending;
-    let at = booked.at;
-    let mut masks = [0u32; CIRCUITS_MOST];
-    if let Ending::Whole = ending {
-        plans::fill_masks(assignment, n, &at, demands, &mut masks);
-    }
-    Offsets { ending, masks }
-}
-
-// The answer to a file that has a fault.
-pub fn fault_answer(file: u32, fault: Fault, byte: usize) -> Answer
-    requires { ⌜ byte < detailEnd ⌝ }
-    ensures { λ r. ⌜ r ≡ Damaged file fault byte ⌝ }
-{
-    Answer::Damaged {
-        file,
-        fault,
-        byte: byte as u32,
-    }
-}
-
-// ---- Allocation.
-
-// How many bytes the assignment of a request will have.
-pub fn assignment_size(request: &[u8], plan: Plan) -> usize
-    requires { ⌜ Holds (now request) plan ⌝ }
-    ensures { λ r. ⌜ r ≡ assignmentSize (requestOf (now (request .entry))) ⌝ }
-{
-    let n = plan.circuits;
-    let demands = plan.demands;
-    let mut total = HEAD_SIZE;
-    for c in 0..n {
-        total += HEAD_SIZE + demands[c] as usize;
-    }
-    total
-}
-
-// Looks for slots for the circuits of a request: where it is Done the offsets are in the masks.
-pub fn search_slots(request: &[u8], plan: Plan, budget: u32, masks: &mut [u32]) -> Allotted
-    requires { ⌜ Holds (now request) plan ⌝ }
-    requires { ⌜ length (now masks) ≡ circuitsMost ⌝ }
-    ensures { λ r. ⌜ Replies (reply budget (whole (requestOf (now (request .entry))))) (plan .circuits) (now (masks .exit)) r ⌝ }
-{
-    let n = plan.circuits;
-    let cycles = plan.cycles;
-    let demands = plan.demands;
-    let counts = plan.counts;
-    let whats = plan.whats;
-    let afters = plan.afters;
-    let mut table = [0u32; CIRCUITS_MOST * CIRCUITS_MOST * CYCLE_MOST];
-    clash::fill(n, &cycles, &counts, &whats, &afters, &mut table);
-    search::allot(&table, &cycles[0..n], &demands[0..n], masks, budget)
-}
 
 // ---- The checks of an assignment, which two calls share.
 
@@ -177,7 +47,7 @@ fn damaged(file: u32, ending: Ending) -> Refusal
 {
     match ending {
         Ending::Whole => Refusal::Nothing,
-        Ending::Stopped(fault, byte) => Refusal::Told(fault_answer(file, fault, byte)),
+        Ending::Stopped(fault, byte) => Refusal::Told(loading::fault_answer(file, fault, byte)),
     }
 }
 
@@ -206,7 +76,7 @@ fn clashing(clash: Clash) -> Refusal
 pub fn check_both(request: &[u8], assignment: &[u8]) -> Checked
     ensures { λ r. ⌜ Checks (now (request .entry)) (now (assignment .entry)) r ⌝ }
 {
-    let plan = load(request);
+    let plan = loading::load(request);
     let read = plan.ending;
     let n = plan.circuits;
     let cycles = plan.cycles;
@@ -217,7 +87,7 @@ pub fn check_both(request: &[u8], assignment: &[u8]) -> Checked
     let mut masks = [0u32; CIRCUITS_MOST];
     let mut refusal = damaged(REQUEST_FILE, read);
     if let Refusal::Nothing = refusal {
-        let offsets = load_offsets(request, n, &cycles, &demands, assignment);
+        let offsets = loading::load_offsets(request, n, &cycles, &demands, assignment);
         masks = offsets.masks;
         let booked = offsets.ending;
         refusal = damaged(ASSIGNMENT_FILE, booked);
@@ -256,7 +126,7 @@ fn check_lines(
 {
     let mut head = [0u16; RESOURCES_MOST];
     let mut next = [0u16; LINES_MOST];
-    checker::link(t, lines, &mut head, &mut next);
+    chains::link(t, lines, &mut head, &mut next);
     checker::check(
         n,
         cycles,

@@ -9,9 +9,9 @@ use Rattle.model.specs.Tests.{joined}
 use Rattle.records.specs.Fields.{Byte}
 use Rattle.mask.specs.Bits.{offsets, Lowest}
 use Rattle.mask.proofs.Laws.{offsets-zero}
-use Rattle.maker.specs.Pasting.{pasted, Laid}
+use Rattle.writer.specs.Pasting.{pasted, Laid}
 use Rattle.maker.specs.Files.{lineRecord, hopPlace, inpAt, hopBytes, offsetBytes, circuitBytes}
-use Rattle.maker.proofs.Rest.{Rest, rest-room, rest-more, rest-end}
+use Rattle.writer.proofs.Rest.{Rest, rest-room, rest-more, rest-end}
 use Rattle.maker.proofs.Sizes.{hop-length}
 
 module _ (req whats afters : List ℕ) (first hops cycle : ℕ) where

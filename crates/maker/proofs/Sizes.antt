@@ -13,7 +13,7 @@ use Rattle.model.specs.Bytes.{recordOf}
 use Rattle.mask.specs.Bits.{places, offsets}
 use Rattle.plans.specs.Rows.{usesMost}
 use Rattle.maker.specs.Files.{hopBytes, offsetBytes, circuitBytes, rowBytes, rowSize, tableSize, CountsFit}
-use Rattle.maker.proofs.Lists.{upTo-same, joined-length, sum-more}
+use Rattle.writer.proofs.Lists.{upTo-same, joined-length, sum-more}
 
 -- ---- a mask has few offsets
 

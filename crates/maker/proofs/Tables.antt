@@ -17,11 +17,11 @@ use Rattle.model.proofs.Readers.{from-is, buffers-are, request-sound}
 use Rattle.mask.specs.Bits.{offsets}
 use Rattle.plans.specs.Rows.{usesMost, placeOf}
 use Rattle.plans.proofs.Uses.{uses-are, use-first, use-hop}
-use Rattle.maker.specs.Pasting.{Laid}
+use Rattle.writer.specs.Pasting.{Laid}
 use Rattle.maker.specs.Files.{lineRecord, hopPlace, inpAt, hopBytes, offsetBytes, circuitBytes, rowBytes, tableSize, UsesFit, RowsFit, TableFits, Stands, WroteTable}
-use Rattle.maker.proofs.Lists.{leftOf, upTo-same, map-upTo, map-by-number, joined-map}
-use Rattle.maker.proofs.Rest.{Rest, rest-start, part-end}
-use Rattle.maker.proofs.Files.{end-laid}
+use Rattle.writer.proofs.Lists.{leftOf, upTo-same, map-upTo, map-by-number, joined-map}
+use Rattle.writer.proofs.Rest.{Rest, rest-start, part-end}
+use Rattle.writer.proofs.Files.{end-laid}
 use Rattle.maker.proofs.Sizes.{table-length}
 
 -- ---- the rows of one circuit

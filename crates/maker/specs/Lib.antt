@@ -1,3 +1,2 @@
--- What the writers of files say of the area that they write into. Assumes nothing: these are definitions.
-pub mod Pasting
+-- The table that a job writes. Assumes nothing: these are definitions.
 pub mod Files

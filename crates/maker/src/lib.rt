@@ -1,113 +1,31 @@
-// Writes the files of jobs, the assignment and the table, into an area with room. Assumes nothing.
+// The table as a file: the lines that slots need, laid into an area with room. Assumes nothing.
 ghost use mathlib.Core.Path.{_≡_};
-ghost use mathlib.Core.List.{[], _∷_, _++_};
 ghost use Prim.Native.Nat.{_+_, _≤_, _<_};
 ghost use lib.ListN.{length};
-ghost use Rattle.model.specs.Sizes.{headSize, lineSize, cycleMost, endKind};
-ghost use Rattle.model.specs.Bytes.{word, recordOf};
-ghost use Rattle.mask.specs.Bits.{offsets};
-ghost use Rattle.maker.specs.Pasting.{pasted, Laid};
-ghost use Rattle.maker.specs.Files.{offsetsRecord, AssignmentFits, WroteAssignment, lineRecord, inpAt, hopBytes, offsetBytes, circuitBytes, tableSize, UsesFit, CountsFit, TableFits, WroteTable};
-use model::END_KIND;
+ghost use Rattle.model.specs.Sizes.{headSize, lineSize, cycleMost};
+ghost use Rattle.writer.specs.Pasting.{pasted, Laid};
+ghost use Rattle.maker.specs.Files.{lineRecord, inpAt, hopBytes, offsetBytes, circuitBytes, tableSize, UsesFit, CountsFit, TableFits, WroteTable};
 use model::FROM_AT;
 use model::HEAD_SIZE;
 use model::IN_AT;
-use model::KIND_AT;
 use model::LINE_BYTES;
 use model::LINE_KIND;
 use model::LINE_SIZE;
 use model::LINK_SIZE;
 use model::LOCAL;
-use model::OFFSETS_KIND;
 use model::OUT_AT;
 use model::ROUTER_AT;
 use model::USES_MOST;
-
-// The number x in two bytes.
-fn put_word(out: &mut [u8], at: usize, x: usize)
-    requires { ⌜ at + 2 ≤ length (now out) ⌝ }
-    ensures { λ _. ⌜ now (out .exit) ≡ pasted (now (out .entry)) at (word x) ⌝ }
-{
-    out[at] = (x % 256) as u8;
-    out[at + 1] = (x / 256 % 256) as u8;
-}
-
-// Four bytes.
-fn put_four(out: &mut [u8], at: usize, a: u8, b: u8, c: u8, d: u8)
-    requires { ⌜ at + 4 ≤ length (now out) ⌝ }
-    ensures { λ _. ⌜ now (out .exit) ≡ pasted (now (out .entry)) at (a ∷ b ∷ c ∷ d ∷ []) ⌝ }
-{
-    out[at] = a;
-    out[at + 1] = b;
-    out[at + 2] = c;
-    out[at + 3] = d;
-}
-
-// What stands in front of a record's body: its length and its kind.
-fn put_head(out: &mut [u8], at: usize, len: usize, kind: usize)
-    requires { ⌜ at + headSize ≤ length (now out) ⌝ }
-    ensures { λ _. ⌜ now (out .exit) ≡ pasted (now (out .entry)) at (word len ++ word kind) ⌝ }
-{
-    put_word(out, at, len);
-    put_word(out, at + KIND_AT, kind);
-}
-
-// The end record; and the place behind it.
-fn put_end(out: &mut [u8], at: usize) -> usize
-    requires { ⌜ at + headSize ≤ length (now out) ⌝ }
-    ensures { λ r. ⌜ Laid (now (out .entry)) at (recordOf endKind []) (now (out .exit)) r ⌝ }
-{
-    put_head(out, at, 0, END_KIND);
-    at + HEAD_SIZE
-}
-
-// The offsets of a mask, rising, a byte for each; and the place behind them.
-fn put_places(out: &mut [u8], at: usize, mask: u32) -> usize
-    requires { ⌜ at + length (offsets mask) ≤ length (now out) ⌝ }
-    ensures { λ r. ⌜ Laid (now (out .entry)) at (offsets mask) (now (out .exit)) r ⌝ }
-{
-    let mut left = mask;
-    let mut p = at;
-    while left != 0 {
-        let a = mask::lowest(left);
-        out[p] = a as u8;
-        p += 1;
-        left = mask::without(left, a);
-    }
-    p
-}
-
-// The offsets record of a mask.
-fn put_offsets(out: &mut [u8], at: usize, mask: u32) -> usize
-    requires { ⌜ at + length (offsetsRecord mask) ≤ length (now out) ⌝ }
-    ensures { λ r. ⌜ Laid (now (out .entry)) at (offsetsRecord mask) (now (out .exit)) r ⌝ }
-{
-    let len = mask::size(mask) as usize;
-    put_head(out, at, len, OFFSETS_KIND);
-    put_places(out, at + HEAD_SIZE, mask)
-}
-
-// The assignment: an offsets record for each circuit, and the end record. It says how many bytes that is.
-pub fn write_assignment(n: usize, masks: &[u32], out: &mut [u8]) -> usize
-    requires { ⌜ AssignmentFits n (now masks) (now out) ⌝ }
-    ensures { λ r. ⌜ WroteAssignment n (now (masks .entry)) (now (out .entry)) (now (out .exit)) r ⌝ }
-{
-    let mut at = 0;
-    for c in 0..n {
-        at = put_offsets(out, at, masks[c]);
-    }
-    put_end(out, at)
-}
 
 // The record of a line.
 fn put_line(out: &mut [u8], at: usize, router: u8, period: u8, slot: u8, inp: usize, to: usize)
     requires { ⌜ at + (headSize + lineSize) ≤ length (now out) ⌝ }
     ensures { λ _. ⌜ now (out .exit) ≡ pasted (now (out .entry)) at (lineRecord router period slot inp to) ⌝ }
 {
-    put_head(out, at, LINE_SIZE, LINE_KIND);
-    put_four(out, at + ROUTER_AT, router, period, slot, 0);
-    put_word(out, at + IN_AT, inp);
-    put_word(out, at + OUT_AT, to);
+    writer::put_head(out, at, LINE_SIZE, LINE_KIND);
+    writer::put_four(out, at + ROUTER_AT, router, period, slot, 0);
+    writer::put_word(out, at + IN_AT, inp);
+    writer::put_word(out, at + OUT_AT, to);
 }
 
 // The inport of hop j: the local one, and then the buffer before.
@@ -239,5 +157,5 @@ pub fn write_table(
             at,
         );
     }
-    put_end(out, at)
+    writer::put_end(out, at)
 }

@@ -1,6 +1,6 @@
 -- Laws of masks and lists of offsets: bits, how many there are, the first, one more, which are in, and that they rise. Assumes nothing.
 use mathlib.Core.Path.{_≡_, refl, sym, ap, _∙_, subst}
-use mathlib.Core.Bool.{Bool, true, false, cond, _||_}
+use mathlib.Core.Bool.{Bool, true, false, cond, _||_, or-true}
 use mathlib.Core.Logic.{_↔_, _⊎_, inl, inr}
 use mathlib.Core.List.{List, [], _∷_, _++_, List·Memᴰ·head, List·Memᴰ·tail, List·Memᴰ·not-nil, List·Memᴰ·cases-cons}
 use Prim.Native.Nat.{ℕ, zero, suc, _+_, _-_, _*_, _/_, _%_, _^_, _≤_, _<_, max}
@@ -9,7 +9,7 @@ use native.Mathlib.Numerals.{add-one}
 use native.Mathlib.Omega.{arith}
 use lib.ListN.{length}
 use lib.Dec.{T, eqb, eqb·suc-suc}
-use borrow.Author.Tests.{ne-eqb}
+use borrow.Author.Tests.{eq-eqb, ne-eqb}
 use lib.Arith.{lt-one, digits-mod}
 use lib.Pow.{shr-lt, shr-shr, shl-exact}
 use lib.Bits.{bitOr, block-half, block-odd, or-shr, or-step, or-shifted-r}
@@ -264,3 +264,11 @@ offsets-marked m i h = record {
       ap (λ x. bit (bitOr m x) d) (shifted i cycleMost h ∙ omega arith)
       ∙ bit-or m (2 ^ i) d ∙ ap (λ b. bit m d || b) (bit-one i d);
 }
+
+-- ---- one bit more
+
+pub marked-kept : {m i r : ℕ} → Marked m i r → (d : ℕ) → bit m d ≡ true → bit r d ≡ true
+marked-kept {i = i} k d e = k .bits d ∙ ap (λ z. z || eqb d i) e
+
+pub marked-new : {m i r : ℕ} → Marked m i r → bit r i ≡ true
+marked-new {m} {i} k = k .bits i ∙ ap (λ z. bit m i || z) (eq-eqb i i refl) ∙ or-true (bit m i)

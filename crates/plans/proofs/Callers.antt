@@ -1,4 +1,4 @@
--- Laws for callers: what `decode` asks of a file that was read, the bounds of the rows that it leaves, and what `fill_masks` asks for.
+-- Laws for callers: the bounds of the rows that `decode` leaves, and what `fill_masks` asks for.
 -- Assumes nothing.
 use Prim.Native.Nat.{ℕ, zero, suc, _+_, _-_, _≤_, _<_}
 use mathlib.Core.Path.{_≡_, refl, ap, _∙_}
@@ -13,9 +13,6 @@ use Rattle.model.specs.Reading.{starts, requestWalk}
 use Rattle.model.proofs.Sound.{SoundRequest, SoundPath, uses-small}
 use Rattle.model.proofs.Readers.{offsets-free}
 use Rattle.records.specs.declared.Ending.the-variants.{Whole}
-use Rattle.reader.specs.Parts.{planOf, Reads}
-use Rattle.reader.specs.declared.Plan.{Plan}
-use Rattle.reader.proofs.Parts.{count-is, few, start-here}
 use Rattle.booked.specs.Parts.{OfRequest, bookedOf}
 use Rattle.booked.specs.declared.Booked.{Booked}
 use Rattle.booked.proofs.Parts.{file-whole, booked-here}
@@ -23,20 +20,7 @@ use Rattle.plans.specs.Rows.{noUse, usesOf, whatOf, afterOf, Rows, Bound
 use Rattle.plans.proofs.Uses.{uses-are, use-first, use-hop, uses-few}
 use Rattle.plans.proofs.Masking.{rising-of}
 
--- ---- `decode`: what it asks for
-
-module _ (s : List ℕ) (p : Plan) (g : Reads s p) where
-  at-long : length (p .at) ≡ circuitsMost
-  unfolding planOf
-  at-long =
-      let l : List ℕ = starts (requestWalk s) in
-      let n : p .circuits ≡ length l = ap (λ (x : Plan). x .circuits) (g .plan) in
-      ap (λ (x : Plan). length (x .at)) (g .plan) ∙ simp (length-append, length-replicate) (omega (arith, few s p g))
-
-  pub starts-of : Starts s (p .circuits) (p .at)
-  starts-of = record { fine = g .whole; many = count-is s p g; few = few s p g; at-long = at-long; each = λ c h. start-here s p g c (getD (p .at) c 0) h refl }
-
--- ---- and what it leaves
+-- ---- `decode`: what it leaves
 
 member : {A : Type 0} (l : List A) (i : ℕ) (d : A) → i < length l → getD l i d ∈ l
 member [] i d h = absurd (not-suc-le-zero h)

@@ -13,7 +13,7 @@ use Rattle.model.specs.Network.{Request, circuitOf}
 use Rattle.model.specs.Reading.{request}
 use Rattle.model.proofs.Sound.{SoundRequest}
 use Rattle.model.proofs.Readers.{request-sound}
-use Rattle.reader.specs.Parts.{StartsAt, CycleIs, DemandIs}
+use Rattle.parts.specs.Parts.{StartsAt, CycleIs, DemandIs}
 use Rattle.plans.specs.Rows.{usesMost, placeOf, usesOf, whatOf, afterOf, Sized, Rows, Starts, Filled, Long, UsesAre}
 use Rattle.plans.proofs.Uses.{uses-few}
 use Rattle.plans.proofs.Filling.{store-on}

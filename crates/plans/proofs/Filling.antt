@@ -11,7 +11,7 @@ use lib.ListN.{length, getD, set, length-set}
 use lib.Seq.{getD-set-same, getD-set-other}
 use Rattle.model.specs.Sizes.{circuitsMost, buffersMost}
 use Rattle.model.specs.Network.{Request, circuitOf, fromRouter, hops, after}
-use Rattle.reader.specs.Parts.{HopsIs, HopIs, FromIs}
+use Rattle.parts.specs.Parts.{HopsIs, HopIs, FromIs}
 use Rattle.plans.specs.Rows.{usesMost, usesOf, whatOf, afterOf, Filled, UsesIn, Long, UsesAre}
 use Rattle.plans.proofs.Uses.{uses-are, use-first, use-hop}
 

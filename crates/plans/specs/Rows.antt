@@ -12,7 +12,7 @@ use Rattle.model.specs.Tests.{upTo}
 use Rattle.model.specs.Search.{Rises}
 use Rattle.model.specs.Reading.{offsetAt, request}
 use Rattle.model.specs.Jobs.{requestFault}
-use Rattle.reader.specs.Parts.{StartsAt}
+use Rattle.parts.specs.Parts.{StartsAt}
 use Rattle.booked.specs.Parts.{BookedAt}
 use Rattle.mask.specs.Bits.{offsets}
 

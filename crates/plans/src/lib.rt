@@ -4,7 +4,7 @@ ghost use Prim.Native.Nat.{_<_};
 ghost use Rattle.model.specs.Sizes.{circuitsMost};
 ghost use Rattle.model.specs.Reading.{request, assignment};
 ghost use Rattle.model.specs.Network.{Request};
-ghost use Rattle.reader.specs.Parts.{StartsAt};
+ghost use Rattle.parts.specs.Parts.{StartsAt};
 ghost use Rattle.plans.specs.Rows.{Rising, MaskOf, Ready, Bookings, Masks, Long, UsesAre, Starts, Sized, Rows};
 use model::BUFFERS_MOST;
 use model::HEAD_SIZE;
@@ -42,14 +42,14 @@ fn circuit_uses(req: &[u8], c: usize, a: usize, whats: &mut [usize], afters: &mu
     requires { ⌜ Long (now whats) (now afters) ⌝ }
     ensures { λ r. ⌜ UsesAre (request (now (req .entry))) c (now (whats .entry)) (now (afters .entry)) (now (whats .exit)) (now (afters .exit)) r ⌝ }
 {
-    let hops = reader::hops_of(req, c, a);
+    let hops = parts::hops_of(req, c, a);
     let base = c * USES_MOST;
-    let first = reader::hop_of(req, c, a, 0);
-    let owner = reader::from_router(req, first);
+    let first = parts::hop_of(req, c, a, 0);
+    let owner = parts::from_router(req, first);
     whats[base] = BUFFERS_MOST + owner;
     afters[base] = 0;
     for j in 0..hops {
-        let buffer = reader::hop_of(req, c, a, j);
+        let buffer = parts::hop_of(req, c, a, j);
         whats[base + (j + 1)] = buffer;
         afters[base + (j + 1)] = j;
     }
@@ -73,8 +73,8 @@ pub fn decode(
 {
     for c in 0..n {
         let a = at[c];
-        let cycle = reader::cycle_of(req, c, a);
-        let demand = reader::demand_of(req, c, a);
+        let cycle = parts::cycle_of(req, c, a);
+        let demand = parts::demand_of(req, c, a);
         let count = circuit_uses(req, c, a, whats, afters);
         cycles[c] = cycle as u32;
         demands[c] = demand as u32;

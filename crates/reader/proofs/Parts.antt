@@ -1,31 +1,24 @@
--- What is known of a file that was read, for the callers of the reader and for its own functions: each law has just the facts that it uses, as
--- `search` finds them. Assumes nothing.
-use Prim.Native.Nat.{ℕ, _+_, _*_, _-_, _^_, _≤_, _<_}
-use mathlib.Core.Path.{_≡_, sym, ap, subst, _∙_}
+-- What is known of a file that was read, for the callers of the reader: each law has just the facts that it uses, as `search` finds them.
+-- Assumes nothing.
+use Prim.Native.Nat.{ℕ, _-_, _≤_, _<_}
+use mathlib.Core.Path.{_≡_, sym, ap, _∙_}
 use mathlib.Core.List.{List, _++_}
-use mathlib.Core.Option.{none, some}
+use mathlib.Core.Option.{some}
 use native.Mathlib.Omega.{arith}
-use lib.ListN.{length, getD, replicate, length-map, List·getD-append}
-use lib.Dec.{T, leb, leb→le}
-use borrow.Author.Tests.{ltb-false}
-use mir.Syntax.{w64}
-use mir.Val.{Fits}
-use Rattle.model.specs.Sizes.{circuitsMost, headSize, wordEnd, detailEnd, requestFile}
-use Rattle.model.specs.Bytes.{lengthAt}
-use Rattle.model.specs.Network.{Circuit, circuitOf, noCircuit, hops, hop}
-use Rattle.model.specs.Reading.{have, stopped, starts, buffersOf, hopsAt, hopAt, circuitAt, circuitVerdict, requestWalk, request}
+use lib.ListN.{length, getD, replicate, List·getD-append}
+use Rattle.model.specs.Sizes.{circuitsMost, detailEnd, requestFile}
+use Rattle.model.specs.Reading.{stopped, starts, requestWalk, request}
 use Rattle.model.specs.Answers.{damage}
 use Rattle.model.specs.Jobs.{requestFault}
 use Rattle.model.specs.declared.Fault.{Fault}
-use Rattle.model.specs.declared.Verdict.the-variants.{Fine}
 use Rattle.model.specs.declared.Answer.the-variants.{Damaged}
-use Rattle.model.proofs.Tests.{getD-map, getD-upTo, length-upTo}
-use Rattle.model.proofs.Sound.{SoundPath}
-use Rattle.model.proofs.Readers.{buffers-are, from-is, to-is, circuit-tests, request-free, request-sound, request-byte-fits}
-use Rattle.records.specs.Fields.{Byte, Word, endingOf}
+use Rattle.model.proofs.Readers.{request-sound, request-byte-fits}
+use Rattle.records.specs.Fields.{endingOf}
 use Rattle.records.specs.declared.Ending.the-variants.{Whole, Stopped}
 use Rattle.records.proofs.Endings.{ends-whole, ends-stopped}
-use Rattle.reader.specs.Parts.{planOf, Reads, StartsAt, HasLink, CycleIs, DemandIs, HopsIs, HopIs, FromIs, ToIs, BuffersAre, RoutersAre}
+use Rattle.parts.specs.Parts.{StartsAt}
+use Rattle.parts.proofs.Parts.{circuits-are}
+use Rattle.reader.specs.Parts.{planOf, Reads}
 use Rattle.reader.specs.declared.Plan.{Plan}
 
 -- ---- what `read` returned, by its ending
@@ -50,10 +43,6 @@ module _ (s : List ℕ) (p : Plan) (e : p ≡ planOf s) where
 
 -- ---- the circuits by number
 
-circuits-are : (s : List ℕ) → length (request s .circuits) ≡ length (starts (requestWalk s))
-unfolding request
-circuits-are s = length-map (starts (requestWalk s)) (circuitAt s)
-
 module _ (s : List ℕ) (p : Plan) (g : Reads s p) where
   pub count-is : p .circuits ≡ length (request s .circuits)
   unfolding planOf
@@ -75,113 +64,3 @@ module _ (s : List ℕ) (p : Plan) (g : Reads s p) where
         ∙ ap (λ (l : List ℕ). getD l c 0) at-is
         ∙ List·getD-append (starts (requestWalk s)) _ 0 c (omega (arith, count-is, circuits-are s));
   }
-
-  -- circuit c's place in `at`
-  pub below-few : (c : ℕ) → c < p .circuits → c < circuitsMost
-  below-few c h = omega (arith, few)
-
-  pub slot-fits : (c : ℕ) → c < p .circuits → Fits w64 (c * 8)
-  slot-fits c h = omega (arith, few)
-
--- ---- a circuit, whose record starts at a
-
-module _ (s : List ℕ) (c a : ℕ) (g : StartsAt s c a) where
-  pub circuit-is : circuitOf (request s) c ≡ circuitAt s a
-  unfolding request
-  circuit-is =
-      getD-map (circuitAt s) (starts (requestWalk s)) c 0 noCircuit (omega (arith, g .low, circuits-are s))
-      ∙ ap (circuitAt s) (sym (g .is))
-
-  path : SoundPath (request s .network) (circuitOf (request s) c)
-  path = request-sound s (g .whole) .path c (g .low)
-
-  fine : circuitVerdict s c a ≡ Fine
-  fine =
-      subst (λ (x : ℕ). circuitVerdict s c x ≡ Fine) (sym (g .is))
-      (request-free s (g .whole) .1 .fine c (omega (arith, g .low, circuits-are s)))
-
-  -- its record is inside the file
-  ends-inside : a + headSize + lengthAt s a ≤ length s
-  ends-inside =
-      let t = circuit-tests s c a fine .0 in
-      omega
-      (arith, ltb-false (lengthAt s a) 6 (t .1 .0), ltb-false (have s a) (headSize + lengthAt s a) (t .1 .1 .1 .1 .0))
-
-  pub start-inside : a ≤ length s
-  start-inside = omega (arith, ends-inside)
-
-  pub start-fits : (k : ℕ) → length s < 2 ^ 64 → T (leb k 8) → Fits w64 (a + k)
-  start-fits k l t =
-      record {
-        fits = omega (arith, ends-inside, ltb-false (lengthAt s a) 6 (circuit-tests s c a fine .0 .1 .0), leb→le k 8 t);
-      }
-
-  pub hop-few : (j : ℕ) → j < hops (circuitOf (request s) c) → j < wordEnd
-  hop-few j h = omega (arith, path .few)
-
-  pub cycle-here : (r : ℕ) → Byte s (a + 4) r → CycleIs (request s) c r
-  cycle-here r w =
-      let e : r ≡ circuitOf (request s) c .cycle = w .is ∙ ap (λ (k : Circuit). k .cycle) (sym circuit-is) in
-      record { is = e; low = omega (arith, path .cycle); high = omega (arith, path .short) }
-
-  pub demand-here : (r : ℕ) → Byte s (a + 5) r → DemandIs (request s) c r
-  demand-here r w =
-      let e : r ≡ circuitOf (request s) c .demand = w .is ∙ ap (λ (k : Circuit). k .demand) (sym circuit-is) in
-      record {
-        is = e;
-        low = omega (arith, path .wants);
-        high = omega (arith, path .room);
-        small = omega (arith, path .room, path .short);
-      }
-
-  hops-are : hops (circuitOf (request s) c) ≡ hopsAt s a
-  hops-are = ap hops circuit-is ∙ length-upTo (hopsAt s a) (hopAt s a)
-
-  pub hops-here : (r : ℕ) → Byte s (a + 6) r → HopsIs (request s) c r
-  hops-here r w =
-      let e : r ≡ hops (circuitOf (request s) c) = w .is ∙ sym hops-are in
-      record { is = e; low = omega (arith, path .some); high = omega (arith, path .few) }
-
-  pub hop-here : (j r : ℕ) → j < hops (circuitOf (request s) c) → Word s (a + 8 + 2 * j) r → HopIs (request s) c j r
-  hop-here j r h w =
-      let e : r ≡ hop (circuitOf (request s) c) j =
-      w .is ∙ sym (ap (λ (k : Circuit). hop k j) circuit-is ∙ getD-upTo (hopsAt s a) (hopAt s a) j 0 (omega (arith, hops-are))) in
-      record {
-        is = e;
-        known = omega (arith, path .known j h);
-        small = omega (arith, path .known j h, request-sound s (g .whole) .buffers);
-      }
-
--- ---- the network
-
-module _ (s : List ℕ) (whole : requestFault s ≡ none) where
-  pub link-here : (b : ℕ) → b < length (request s .network .links) → HasLink s b
-  link-here b h = record { whole = whole; low = h }
-
-  pub buffers-here : (r : ℕ) → Word s 6 r → BuffersAre (request s) r
-  buffers-here r w =
-      let e : r ≡ length (request s .network .links) = w .is ∙ sym (buffers-are s) in
-      record { is = e; high = omega (arith, request-sound s whole .buffers) }
-
-  pub routers-here : (r : ℕ) → Word s 4 r → RoutersAre (request s) r
-  unfolding request
-  routers-here r w = record { is = w .is; high = omega (arith, w .is, request-sound s whole .routers) }
-
-module _ (s : List ℕ) (b : ℕ) (g : HasLink s b) where
-  pub link-few : b < wordEnd
-  link-few = omega (arith, g .low, request-sound s (g .whole) .buffers)
-
-  listed : b < buffersOf s
-  listed = omega (arith, g .low, buffers-are s)
-
-  pub from-here : (r : ℕ) → Byte s (8 + 2 * b) r → FromIs (request s) b r
-  from-here r w =
-      let ok = request-sound s (g .whole) in
-      let e = w .is ∙ sym (from-is s b listed) in
-      record { is = e; known = omega (arith, e, ok .owned b (g .low)); small = omega (arith, e, ok .owned b (g .low), ok .routers) }
-
-  pub to-here : (r : ℕ) → Byte s (9 + 2 * b) r → ToIs (request s) b r
-  to-here r w =
-      let ok = request-sound s (g .whole) in
-      let e = w .is ∙ sym (to-is s b listed) in
-      record { is = e; known = omega (arith, e, ok .leads b (g .low)); small = omega (arith, e, ok .leads b (g .low), ok .routers) }

@@ -1,13 +1,19 @@
 // Bytes and numbers of a file by position, 0 past the end, and the steps over its records that all
 // three files share.
 ghost use mathlib.Core.Path.{_≡_};
-ghost use Prim.Native.Nat.{ℕ, _+_, _≤_, _<_, _^_};
+ghost use Prim.Native.Nat.{ℕ, _+_, _*_, _≤_, _<_, _^_};
 ghost use lib.ListN.{length};
+ghost use Rattle.model.specs.Sizes.{wordEnd};
 ghost use Rattle.model.specs.Reading.{onward, endStep, andThen};
 ghost use Rattle.records.specs.Fields.{Byte, Word, isFine};
+use model::FROM_AT;
 use model::Fault;
 use model::HEAD_SIZE;
+use model::HOP_SIZE;
+use model::LINK_SIZE;
+use model::PATH_AT;
 use model::Step;
+use model::TO_AT;
 use model::Verdict;
 
 // How the reading of a file ends: it is whole, or it has a fault, which names a byte.
@@ -70,4 +76,30 @@ pub fn end_step(s: &[u8], p: usize, early: bool) -> Step
         return Step::Refused(Fault::After, p + HEAD_SIZE);
     }
     Step::End
+}
+
+// ---- Numbers of a request that more than one reader asks for.
+
+// The router that owns buffer b.
+pub fn from_of(s: &[u8], b: usize) -> usize
+    requires { ⌜ b < wordEnd ⌝ }
+    ensures { λ r. ⌜ Byte (now (s .entry)) (8 + 2 * b) r ⌝ }
+{
+    byte(s, FROM_AT + LINK_SIZE * b)
+}
+
+// The router that buffer b leads to.
+pub fn to_of(s: &[u8], b: usize) -> usize
+    requires { ⌜ b < wordEnd ⌝ }
+    ensures { λ r. ⌜ Byte (now (s .entry)) (9 + 2 * b) r ⌝ }
+{
+    byte(s, TO_AT + LINK_SIZE * b)
+}
+
+// The buffer of hop j of the circuit whose record starts at p.
+pub fn hop(s: &[u8], p: usize, j: usize) -> usize
+    requires { ⌜ (p ≤ length (now s)) × (j < wordEnd) ⌝ }
+    ensures { λ r. ⌜ Word (now (s .entry)) (p + 8 + 2 * j) r ⌝ }
+{
+    word(s, p + PATH_AT + HOP_SIZE * j)
 }

@@ -3,9 +3,7 @@
 // crates io and os assume of the system's calls.
 use model::Answer;
 
-mod explain;
 mod files;
-mod show;
 
 const BUDGET: u32 = 1_000_000;
 

@@ -26,11 +26,11 @@ use Rattle.mask.specs.Bits.{offsets}
 use Rattle.search.specs.Code.{Replies}
 use Rattle.search.specs.declared.Allotted.{Allotted}
 use Rattle.search.specs.declared.Allotted.the-variants.{Done as DoneReply, Full as FullReply, Unfinished as UnfinishedReply}
-use Rattle.maker.specs.Files.{AssignmentFits, Assigns, WroteAssignment, Wrote}
-use Rattle.maker.proofs.Files.{assignment-size}
-use Rattle.jobs.specs.Loaded.{Holds, Loads}
-use Rattle.jobs.specs.declared.Plan.{Plan}
-use Rattle.jobs.proofs.Loading.{request-stops}
+use Rattle.writer.specs.Files.{AssignmentFits, Assigns, WroteAssignment, Wrote}
+use Rattle.writer.proofs.Files.{assignment-size}
+use Rattle.loading.specs.Loaded.{Holds, Loads}
+use Rattle.loading.specs.declared.Plan.{Plan}
+use Rattle.loading.proofs.Loading.{request-stops}
 
 -- ---- the reply behind the code's
 

@@ -18,7 +18,8 @@ use Rattle.model.specs.Jobs.{Contract, make, Result, writes, unless, makeTables
 use Rattle.model.specs.declared.Answer.{Answer}
 use Rattle.model.specs.declared.Answer.the-variants.{Made, Short}
 use Rattle.model.proofs.Details.{details-fit}
-use Rattle.maker.specs.Files.{CountsFit, TableFits, tableSize, Wrote, WroteTable}
+use Rattle.writer.specs.Files.{Wrote}
+use Rattle.maker.specs.Files.{CountsFit, TableFits, tableSize, WroteTable}
 use Rattle.maker.proofs.Tables.{rows-fit, table-size}
 use Rattle.jobs.specs.Checked.{refusalOf, refusing, Checks}
 use Rattle.jobs.specs.declared.Refusal.the-variants.{Nothing, Told}

@@ -18,10 +18,11 @@ use Rattle.lined.specs.Parts.{linedOf}
 use Rattle.lined.specs.declared.Lined.{Lined}
 use Rattle.lined.proofs.Parts.{whole-is, stopped-is, lines-are}
 use Rattle.plans.specs.Rows.{usesMost}
-use Rattle.jobs.specs.Loaded.{Holds, Loads, LoadsOffsets, Numbers, AllRead}
-use Rattle.jobs.specs.declared.Plan.{Plan}
-use Rattle.jobs.specs.declared.Offsets.{Offsets}
-use Rattle.jobs.proofs.Loading.{request-stops, numbers-of, assignment-stops}
+use Rattle.loading.specs.Loaded.{Holds, Loads, LoadsOffsets, Numbers}
+use Rattle.jobs.specs.Checked.{AllRead}
+use Rattle.loading.specs.declared.Plan.{Plan}
+use Rattle.loading.specs.declared.Offsets.{Offsets}
+use Rattle.loading.proofs.Loading.{request-stops, numbers-of, assignment-stops}
 
 -- ---- the request: p is what was loaded of it
 

@@ -19,7 +19,7 @@ pub fn read_request(request: &[u8]) -> Answer
     let ending = plan.ending;
     match ending {
         Ending::Whole => Answer::Done,
-        Ending::Stopped(fault, byte) => jobs::fault_answer(REQUEST_FILE, fault, byte),
+        Ending::Stopped(fault, byte) => loading::fault_answer(REQUEST_FILE, fault, byte),
     }
 }
 
@@ -28,12 +28,12 @@ pub fn read_request(request: &[u8]) -> Answer
 pub fn allocate(request: &[u8], budget: u32, assignment: &mut [u8]) -> Answer
     ensures { λ r. ⌜ Contract (allot (now (request .entry)) budget (now (assignment .entry))) r (now (assignment .exit)) ⌝ }
 {
-    let plan = jobs::load(request);
+    let plan = loading::load(request);
     let ending = plan.ending;
     if let Ending::Stopped(fault, byte) = ending {
-        return jobs::fault_answer(REQUEST_FILE, fault, byte);
+        return loading::fault_answer(REQUEST_FILE, fault, byte);
     }
-    let needed = jobs::assignment_size(request, plan);
+    let needed = slots::assignment_size(request, plan);
     if assignment.len() < needed {
         return Answer::Short {
             bytes: needed as u32,
@@ -41,9 +41,9 @@ pub fn allocate(request: &[u8], budget: u32, assignment: &mut [u8]) -> Answer
     }
     let n = plan.circuits;
     let mut masks = [0u32; CIRCUITS_MOST];
-    match jobs::search_slots(request, plan, budget, &mut masks) {
+    match slots::search_slots(request, plan, budget, &mut masks) {
         Allotted::Done(visits) => {
-            let bytes = maker::write_assignment(n, &masks, assignment);
+            let bytes = writer::write_assignment(n, &masks, assignment);
             Answer::Allocated {
                 visits,
                 bytes: bytes as u32,
@@ -97,23 +97,23 @@ pub fn make_tables(request: &[u8], assignment: &[u8], table: &mut [u8]) -> Answe
 pub fn check_tables(request: &[u8], assignment: &[u8], table: &[u8]) -> Answer
     ensures { λ r. ⌜ Contract (verify (now (request .entry)) (now (assignment .entry)) (now (table .entry))) r [] ⌝ }
 {
-    let plan = jobs::load(request);
+    let plan = loading::load(request);
     let first = plan.ending;
     if let Ending::Stopped(fault, byte) = first {
-        return jobs::fault_answer(REQUEST_FILE, fault, byte);
+        return loading::fault_answer(REQUEST_FILE, fault, byte);
     }
     let n = plan.circuits;
     let cycles = plan.cycles;
     let demands = plan.demands;
-    let booked = jobs::load_offsets(request, n, &cycles, &demands, assignment);
+    let booked = loading::load_offsets(request, n, &cycles, &demands, assignment);
     let second = booked.ending;
     if let Ending::Stopped(fault, byte) = second {
-        return jobs::fault_answer(ASSIGNMENT_FILE, fault, byte);
+        return loading::fault_answer(ASSIGNMENT_FILE, fault, byte);
     }
     let lined = lined::read(request, table);
     let third = lined.ending;
     if let Ending::Stopped(fault, byte) = third {
-        return jobs::fault_answer(TABLE_FILE, fault, byte);
+        return loading::fault_answer(TABLE_FILE, fault, byte);
     }
     let counts = plan.counts;
     let whats = plan.whats;

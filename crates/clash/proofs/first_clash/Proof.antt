@@ -5,7 +5,7 @@ use native.Mathlib.Omega.{arith}
 use borrow.Author.Needs.{needs}
 use borrow.Author.Tests.{not-true}
 use Rattle.model.specs.Sizes.{resourcesMost}
-use Rattle.clash.specs.Bookings.{bookedAt}
+use Rattle.pairs.specs.Bookings.{bookedAt}
 use Rattle.clash.specs.declared.Clash.the-variants.{Nowhere}
 use Rattle.clash.proofs.First.{ClearWhats, ClearSlots, ClearHigher, ClearLower, Low, whats-none, whats-more, slots-none, slots-more, rows-skip, rows-all, higher-none, higher-more, lower-none, lower-more, nowhere, somewhere}
 use Rattle.clash.proofs.Sets.{listed}

@@ -8,8 +8,8 @@ use Rattle.jobs.proofs.check_both.Lts as lts
 use Rattle.clash.proofs.first_clash.Reads as first-clash-reads
 use Rattle.jobs.proofs.clashing.Reads as clashing-reads
 use Rattle.jobs.proofs.damaged.Reads as damaged-reads
-use Rattle.jobs.proofs.load.Reads as load-reads
-use Rattle.jobs.proofs.load_offsets.Reads as load-offsets-reads
+use Rattle.loading.proofs.load.Reads as load-reads
+use Rattle.loading.proofs.load_offsets.Reads as load-offsets-reads
 
 load-requires : tie.Need-load-requires
 load-requires c κs = search needs

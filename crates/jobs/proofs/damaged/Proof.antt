@@ -5,7 +5,7 @@ use Rattle.jobs.proofs.damaged.Statement.{statement}
 use Rattle.jobs.proofs.damaged.Tie as tie
 use Rattle.jobs.proofs.damaged.Reads as reads
 use Rattle.jobs.proofs.damaged.Lts as lts
-use Rattle.jobs.proofs.fault_answer.Reads as fault-answer-reads
+use Rattle.loading.proofs.fault_answer.Reads as fault-answer-reads
 
 enum-told : tie.Need-enum-told
 enum-told c = search needs

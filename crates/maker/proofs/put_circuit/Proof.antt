@@ -3,7 +3,7 @@ use native.Mathlib.Omega.{arith}
 use borrow.Author.Needs.{needs}
 use lib.Pow.{pow-pos}
 use Rattle.maker.specs.Files.{circuitBytes}
-use Rattle.maker.proofs.Rest.{Rest, rest-start}
+use Rattle.writer.proofs.Rest.{Rest, rest-start}
 use Rattle.maker.proofs.Lines.{offset-room, offset-more, offset-end}
 use Rattle.maker.proofs.put_circuit.Statement.{statement}
 use Rattle.maker.proofs.put_circuit.Tie as tie

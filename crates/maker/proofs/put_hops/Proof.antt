@@ -3,8 +3,8 @@ use Prim.Native.Nat.{_-_, _≤_}
 use native.Mathlib.Omega.{arith}
 use Rattle.model.specs.Bytes.{recordOf}
 use Rattle.maker.specs.Files.{hopBytes, offsetBytes}
-use Rattle.maker.proofs.Lists.{leftOf}
-use Rattle.maker.proofs.Rest.{Rest, rest-start, part-room, part-more, part-end}
+use Rattle.writer.proofs.Lists.{leftOf}
+use Rattle.writer.proofs.Rest.{Rest, rest-start, part-room, part-more, part-end}
 use Rattle.maker.proofs.put_hops.Statement.{statement}
 use Rattle.maker.proofs.put_hops.Tie as tie
 

@@ -4,7 +4,7 @@ use mathlib.Core.List.{[], _∷_, _++_}
 use native.Mathlib.Omega.{arith}
 use borrow.Author.Needs.{needs}
 use Rattle.model.specs.Bytes.{word, recordOf}
-use Rattle.maker.proofs.Pastes.{pasted-then}
+use Rattle.writer.proofs.Pastes.{pasted-then}
 use Rattle.maker.proofs.put_line.Statement.{statement}
 use Rattle.maker.proofs.put_line.Tie as tie
 

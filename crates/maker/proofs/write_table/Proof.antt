@@ -3,8 +3,8 @@ use Prim.Native.Nat.{_-_, _≤_}
 use native.Mathlib.Omega.{arith}
 use Rattle.model.specs.Tests.{upTo, joined}
 use Rattle.maker.specs.Files.{rowBytes}
-use Rattle.maker.proofs.Lists.{leftOf}
-use Rattle.maker.proofs.Rest.{Rest, part-room, part-more, part-end}
+use Rattle.writer.proofs.Lists.{leftOf}
+use Rattle.writer.proofs.Rest.{Rest, part-room, part-more, part-end}
 use Rattle.maker.proofs.Tables.{uses-fit, table-start, table-room, table-written}
 use Rattle.maker.proofs.write_table.Statement.{statement}
 use Rattle.maker.proofs.write_table.Tie as tie

@@ -3,7 +3,7 @@ use Prim.Native.Nat.{_-_}
 use borrow.Author.Needs.{needs}
 use native.Mathlib.Omega.{arith}
 use Rattle.model.specs.Reading.{request}
-use Rattle.reader.proofs.Parts.{link-here}
+use Rattle.parts.proofs.Parts.{link-here}
 use Rattle.plans.proofs.Filling.{Going, going-start, going-on, going-end}
 use Rattle.plans.proofs.circuit_uses.Statement.{statement}
 use Rattle.plans.proofs.circuit_uses.Tie as tie

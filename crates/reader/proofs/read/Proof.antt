@@ -4,8 +4,8 @@ use Rattle.reader.proofs.Walking.{first-inside, read-on, read-refused}
 use Rattle.reader.proofs.read.Statement.{statement}
 use Rattle.reader.proofs.read.Tie as tie
 
-network-requires : tie.Need-network-requires
-network-requires c κs = search needs
+verdict-requires : tie.Need-verdict-requires
+verdict-requires c κs = search needs
 
 enum-told : tie.Need-enum-told
 enum-told c = search needs
@@ -35,7 +35,7 @@ pub read-spec : {M : Type 1} → statement M
 read-spec =
     tie.close
     (tie.spec
-    network-requires
+    verdict-requires
     enum-told
     word-requires
     add-circuits

@@ -25,8 +25,8 @@ returns-2 c = search step-end
 returns-3 : tie.Need-returns-3
 returns-3 c = search step-kind
 
-circuit-requires : tie.Need-circuit-requires
-circuit-requires c κs = search needs
+verdict-requires : tie.Need-verdict-requires
+verdict-requires c κs = search needs
 
 past-requires : tie.Need-past-requires
 past-requires c κs = search needs
@@ -45,6 +45,6 @@ step-at-spec =
     end-step-requires
     returns-2
     returns-3
-    circuit-requires
+    verdict-requires
     past-requires
     returns-4)

@@ -1,17 +1,17 @@
 -- `vaskunoor::allocate` meets its contract. Assumes nothing.
 use mathlib.Core.Path.{refl}
-use Rattle.jobs.proofs.Loading.{request-byte}
+use Rattle.loading.proofs.Loading.{request-byte}
 use Rattle.vaskunoor.proofs.Allotting.{refused, holds-here, too-short, needed-small, no-room, not-finished, room-here, written-small, given-here}
 use borrow.Author.Needs.{needs}
 use Rattle.vaskunoor.proofs.allocate.Statement.{statement}
 use Rattle.vaskunoor.proofs.allocate.Tie as tie
 use Rattle.vaskunoor.proofs.allocate.Reads as reads
 use Rattle.vaskunoor.proofs.allocate.Lts as lts
-use Rattle.jobs.proofs.fault_answer.Reads as fault-answer-reads
-use Rattle.maker.proofs.write_assignment.Reads as write-assignment-reads
-use Rattle.jobs.proofs.assignment_size.Reads as assignment-size-reads
-use Rattle.jobs.proofs.load.Reads as load-reads
-use Rattle.jobs.proofs.search_slots.Reads as search-slots-reads
+use Rattle.loading.proofs.fault_answer.Reads as fault-answer-reads
+use Rattle.writer.proofs.write_assignment.Reads as write-assignment-reads
+use Rattle.slots.proofs.assignment_size.Reads as assignment-size-reads
+use Rattle.loading.proofs.load.Reads as load-reads
+use Rattle.slots.proofs.search_slots.Reads as search-slots-reads
 
 load-requires : tie.Need-load-requires
 load-requires c κs = search needs

@@ -5,7 +5,7 @@ use Rattle.vaskunoor.proofs.read_request.Statement.{statement}
 use Rattle.vaskunoor.proofs.read_request.Tie as tie
 use Rattle.vaskunoor.proofs.read_request.Reads as reads
 use Rattle.vaskunoor.proofs.read_request.Lts as lts
-use Rattle.jobs.proofs.fault_answer.Reads as fault-answer-reads
+use Rattle.loading.proofs.fault_answer.Reads as fault-answer-reads
 use Rattle.reader.proofs.read.Reads as read-reads
 
 read-requires : tie.Need-read-requires

@@ -1,0 +1,2 @@
+-- The laws behind the tests on a circuit record. Assumes nothing.
+pub mod Laws

@@ -1,0 +1,2 @@
+-- Tests on a circuit record. Assumes nothing: these are definitions.
+pub mod Numbers

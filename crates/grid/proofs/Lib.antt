@@ -1,0 +1,2 @@
+-- The laws behind the table of clashes. Assumes nothing.
+pub mod Filling

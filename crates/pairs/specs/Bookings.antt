@@ -1,0 +1,58 @@
+-- What circuits hold, as rows of numbers say it, and how the rows belong to a request. Assumes nothing: these are definitions.
+use Prim.Native.Nat.{ℕ, _+_, _*_, _^_, _≤_, _<_}
+use mathlib.Core.Path.{_≡_}
+use mathlib.Core.List.{List}
+use lib.ListN.{length, getD}
+use Rattle.model.specs.Sizes.{circuitsMost}
+use Rattle.model.specs.Network.{Request, circuitOf}
+use Rattle.model.specs.Holding.{Booking, offsetsOf}
+use Rattle.model.proofs.Sound.{SoundRequest}
+use Rattle.divisor.specs.Common.{Cycle}
+use Rattle.plans.specs.Rows.{Rows, usesMost}
+use Rattle.mask.specs.Bits.{offsets}
+use Rattle.pairs.specs.Differences.{usesIn}
+
+-- ---- what the code asks of the rows
+
+-- the rows are long enough
+pub record Long (cycles counts whats afters : List ℕ) : Type 0 where
+  pub cycles-long : length cycles ≡ circuitsMost
+  pub counts-long : length counts ≡ circuitsMost
+  pub whats-long : length whats ≡ circuitsMost * usesMost
+  pub afters-long : length afters ≡ circuitsMost * usesMost
+
+-- circuit c has a place, a cycle and few enough uses
+pub record Known (cycles counts : List ℕ) (c : ℕ) : Type 0 where
+  pub listed : c < circuitsMost
+  pub cycle : Cycle (getD cycles c 0)
+  pub few : getD counts c 0 ≤ usesMost
+
+-- the rows of n circuits
+pub record Lent (n : ℕ) (cycles counts whats afters : List ℕ) : Type 0 where
+  pub few : n ≤ circuitsMost
+  pub long : Long cycles counts whats afters
+  pub known : (c : ℕ) → c < n → Known cycles counts c
+
+-- ---- what the rows say of circuit c with the offsets of a mask m
+
+unfoldable pub bookingAt : (cycles counts whats afters : List ℕ) (c m : ℕ) → Booking
+bookingAt cycles counts whats afters c m =
+    record { cycle = getD cycles c 0; uses = usesIn counts whats afters c; offsets = offsets m }
+
+-- with the offsets of its mask
+abbrev pub bookedAt : (cycles counts whats afters masks : List ℕ) (c : ℕ) → Booking
+bookedAt cycles counts whats afters masks c = bookingAt cycles counts whats afters c (getD masks c 0)
+
+-- ---- how the rows belong to a request
+
+pub record Stands (q : Request) (n : ℕ) (cycles counts whats afters : List ℕ) : Type 0 where
+  pub sound : SoundRequest q
+  pub many : length (q .circuits) ≡ n
+  pub demands : List ℕ
+  pub rows : Rows q n cycles demands counts whats afters
+
+-- and the masks to the offsets of its circuits
+pub record Planned (q : Request) (assigned : List (List ℕ)) (n : ℕ) (cycles counts whats afters masks : List ℕ) : Type 0 where
+  pub stands : Stands q n cycles counts whats afters
+  pub offsets-are : (c : ℕ) → c < n → offsetsOf assigned c ≡ offsets (getD masks c 0)
+  pub low : (c : ℕ) → c < n → getD masks c 0 < 2 ^ circuitOf q c .cycle

@@ -1,0 +1,144 @@
+// One series of packets held against the lines of its inport: which lines meet it, and what is wrong with it. Assumes nothing.
+ghost use mathlib.Core.Path.{_≡_};
+ghost use Prim.Native.Nat.{_%_, _<_};
+ghost use Rattle.model.specs.Sizes.{resourcesMost};
+ghost use Rattle.model.specs.Tests.{_and_};
+ghost use Rattle.divisor.specs.Common.{Cycle};
+ghost use Rattle.chains.specs.Chains.{Linked};
+ghost use Rattle.series.specs.Judging.{noted, Held, agreesOf, coversOf, metBy, judgedOf};
+
+// Of the lines that meet a series: the first, the first that does not serve it whole, and the second.
+// The number of lines where there is none.
+struct Met {
+    one: usize,
+    part: usize,
+    two: usize,
+}
+
+// What is wrong with a series, if anything is, and the line that shows it.
+pub enum Judged {
+    Fine,
+    Unserved,
+    Partly(usize),
+    Twice(usize),
+    Astray(usize),
+}
+
+// Some slot of the series matches line m. Of the slots of the series `early` is the remainder by its
+// cycle, which settles it for a line of the same period.
+fn agrees(t: &[u8], m: usize, cycle: usize, start: usize, early: usize) -> bool
+    requires { ⌜ Held (now t) m cycle ⌝ }
+    requires { ⌜ early ≡ start % cycle ⌝ }
+    ensures { λ r. ⌜ r ≡ agreesOf (now (t .entry)) cycle start m ⌝ }
+{
+    let period = lined::period_of(t, m);
+    let slot = lined::slot_of(t, m);
+    if period == cycle {
+        return early == slot;
+    }
+    let g = divisor::common(cycle, period);
+    start % g == slot % g
+}
+
+// Every slot of the series matches line m.
+fn covers(t: &[u8], m: usize, cycle: usize, start: usize) -> bool
+    requires { ⌜ Held (now t) m cycle ⌝ }
+    ensures { λ r. ⌜ r ≡ coversOf (now (t .entry)) cycle start m ⌝ }
+{
+    let period = lined::period_of(t, m);
+    let slot = lined::slot_of(t, m);
+    if cycle % period != 0 {
+        return false;
+    }
+    start % period == slot
+}
+
+// The first that meets and is wanted: the one before m, if there is one, and else m, if it is one.
+fn note(n: usize, before: usize, m: usize, meets: bool, wanted: bool) -> usize
+    ensures { λ r. ⌜ r ≡ noted n before m (meets and wanted) ⌝ }
+{
+    if !meets {
+        return before;
+    }
+    if !wanted {
+        return before;
+    }
+    if before < n {
+        return before;
+    }
+    m
+}
+
+// Goes through the lines of the port.
+fn meeting(
+    t: &[u8],
+    lines: usize,
+    head: &[u16],
+    next: &[u16],
+    port: usize,
+    cycle: usize,
+    start: usize,
+) -> Met
+    requires { ⌜ Linked (now t) lines (now head) (now next) ⌝ }
+    requires { ⌜ (port < resourcesMost) × Cycle cycle ⌝ }
+    ensures { λ r. ⌜ r ≡ metBy (now (t .entry)) lines port cycle start ⌝ }
+{
+    let early = start % cycle;
+    let mut one = lines;
+    let mut part = lines;
+    let mut two = lines;
+    let mut m = chains::wide(head[port]);
+    while m < lines {
+        let here = m;
+        m = chains::wide(next[here]);
+        let meets = agrees(t, here, cycle, start, early);
+        if !meets {
+            continue;
+        }
+        let whole = covers(t, here, cycle, start);
+        two = note(lines, two, here, meets, one < lines);
+        part = note(lines, part, here, meets, !whole);
+        one = note(lines, one, here, meets, true);
+    }
+    Met {
+        one: one,
+        part: part,
+        two: two,
+    }
+}
+
+// What is wrong with the series that comes to this port from slot start on, once in each cycle, to go
+// to the buffer out.
+pub fn judge(
+    t: &[u8],
+    lines: usize,
+    head: &[u16],
+    next: &[u16],
+    port: usize,
+    cycle: usize,
+    start: usize,
+    out: usize,
+) -> Judged
+    requires { ⌜ Linked (now t) lines (now head) (now next) ⌝ }
+    requires { ⌜ (port < resourcesMost) × Cycle cycle ⌝ }
+    ensures { λ r. ⌜ r ≡ judgedOf (now (t .entry)) lines port cycle start out ⌝ }
+{
+    let met = meeting(t, lines, head, next, port, cycle, start);
+    let one = met.one;
+    let part = met.part;
+    let two = met.two;
+    if lines <= one {
+        return Judged::Unserved;
+    }
+    if part < lines {
+        return Judged::Partly(part);
+    }
+    if two < lines {
+        return Judged::Twice(two);
+    }
+    let led = lined::out_of(t, one);
+    if led != out {
+        return Judged::Astray(one);
+    }
+    Judged::Fine
+}

@@ -1,0 +1,2 @@
+-- The laws behind the sets of resources. Assumes nothing.
+pub mod Sets
