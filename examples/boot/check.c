@@ -29,15 +29,6 @@ static const uint8_t table[] = {
     0, 0, 5, 0,
 };
 
-/* the same with a bit flipped in line 1: slot 3 in place of 1 */
-static const uint8_t flipped_table[] = {
-    8, 0, 4, 0, 0, 4, 0, 0, 255, 255, 0, 0,
-    8, 0, 4, 0, 1, 4, 3, 0, 0, 0, 1, 0,
-    8, 0, 4, 0, 1, 6, 0, 0, 255, 255, 1, 0,
-    8, 0, 4, 0, 1, 6, 2, 0, 255, 255, 1, 0,
-    0, 0, 5, 0,
-};
-
 struct meaning {
     const char *number;
     const char *details[4];
@@ -93,9 +84,16 @@ static void boot(const char *what, const uint8_t *lines, size_t lines_size) {
         halt(number, details);
 }
 
+/* where the slot of line 1 stands: lines are records of 12 bytes, and the slot is the third byte behind a record's head */
+#define SLOT_OF_LINE_1 (12 + 4 + 2)
+
 int main(void) {
+    uint8_t flipped[sizeof table];
+    for (size_t i = 0; i < sizeof table; i++)
+        flipped[i] = table[i];
+    flipped[SLOT_OF_LINE_1] ^= 2;
     boot("the table as it was made", table, sizeof table);
-    boot("a bit flipped", flipped_table, sizeof flipped_table);
+    boot("a bit flipped", flipped, sizeof flipped);
     boot("the last byte missing", table, sizeof table - 1);
     return 0;
 }

@@ -1,6 +1,6 @@
 -- What an answer's numbers are once its kind is known, for `search`. Assumes nothing.
 use Prim.Native.Nat.{ℕ}
-use mathlib.Core.Path.{_≡_, refl, sym, ap, _∙_}
+use mathlib.Core.Path.{_≡_, sym, ap, _∙_}
 use Rattle.model.specs.Answers.{faultNumber}
 use Rattle.model.specs.declared.Fault.{Fault}
 use Rattle.model.specs.declared.Answer.{Answer}

@@ -1,5 +1,5 @@
 -- How an answer is handed out: document 01's number and four details, as the definition `told` gives them. Assumes nothing: these are definitions.
-use Rattle.model.specs.Answers.{Told, told, telling}
+use Rattle.model.specs.Answers.{told}
 use Rattle.model.specs.declared.Answer.{Answer}
 use Rattle.answers.specs.declared.Details.{Details}
 

@@ -1,13 +1,13 @@
 -- What the area of the details holds once four numbers are laid into it, and what a call then hands back. Assumes nothing.
 use Prim.Native.Nat.{ℕ, _≤_}
-use mathlib.Core.Path.{_≡_, refl, sym, ap, _∙_}
-use mathlib.Core.List.{List, [], _∷_, _++_}
+use mathlib.Core.Path.{_≡_, refl, ap, _∙_}
+use mathlib.Core.List.{List, [], _++_}
 use native.Mathlib.Omega.{arith}
 use borrow.Author.Tests.{eq-eqb, ne-eqb}
-use lib.ListN.{length, drop, drop-of-length-le}
+use lib.ListN.{length, drop-of-length-le}
 use Rattle.model.specs.Bytes.{over}
-use Rattle.model.specs.Answers.{Told, told}
-use Rattle.model.specs.Jobs.{Call, Contract, resultOf}
+use Rattle.model.specs.Answers.{told}
+use Rattle.model.specs.Jobs.{Call, Contract}
 use Rattle.model.specs.declared.Answer.{Answer}
 use Rattle.answers.specs.Handed.{handed}
 use Rattle.answers.specs.declared.Details.{Details}

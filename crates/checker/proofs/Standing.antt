@@ -25,7 +25,7 @@ use Rattle.model.proofs.Sound.{SoundRequest, hop-small}
 use Rattle.model.proofs.Readers.{table-sound}
 use Rattle.lined.specs.Parts.{LineIn, LeadsTo, GoodLine}
 use Rattle.lined.proofs.Parts.{line-is, line-good}
-use Rattle.plans.specs.Rows.{usesOf, useOf, placeOf}
+use Rattle.plans.specs.Rows.{usesOf, useOf, placeOf, RowsOf}
 use Rattle.plans.proofs.Uses.{uses-are, use-first, use-hop}
 use Rattle.chains.specs.Chains.{portOf, portAt, lineIn, has, Tabled}
 use Rattle.series.specs.Judging.{agreesOf, coversOf, meetsAt, partAt, oneOf, againAt, metBy, judgedOf, judgedAnswer}
@@ -205,46 +205,52 @@ module _ (q : Request) (sound : SoundRequest q) (t : List ℕ) (whole : damage t
 
 -- ---- the rows of a request
 
-module _ (q : Request) (assigned : List (List ℕ)) (n : ℕ) (cycles demands counts whats afters masks t : List ℕ) (lines : ℕ)
-    (f : Facts q assigned n cycles demands counts whats afters masks t lines) where
+module _ (q : Request) (assigned : List (List ℕ)) (n : ℕ) (cycles counts whats afters masks t : List ℕ) (lines : ℕ)
+    (f : Facts q assigned n cycles counts whats afters masks t lines) where
+  stands : RowsOf q n cycles counts whats afters
+  stands = f .planned .stands
+
+  sound : SoundRequest q
+  sound = stands .sound
+
   abbrev C : ℕ → Circuit
   C c = circuitOf q c
 
   module _ (c : ℕ) (low : c < n) where
     listed : c < length (q .circuits)
-    listed = omega (arith, f .many)
+    listed = omega (arith, stands .many)
 
     hops-are : getD counts c 0 - 1 ≡ hops (C c)
-    hops-are = omega (arith, f .rows .count c low, uses-are (q .network) (C c))
+    hops-are = omega (arith, stands .rows .count c low, uses-are (q .network) (C c))
 
     module _ (j : ℕ) (on : j < hops (C c)) where
       inside : j + 1 < usesOf q c
       inside = omega (arith, uses-are (q .network) (C c))
 
       out-is : getD whats (placeOf c (j + 1)) 0 ≡ hop (C c) j
-      out-is = f .rows .what c (j + 1) low inside ∙ ap (λ i. useOf q c i .what) (add-one j) ∙ ap (λ u. u .what) (use-hop q c j on)
+      out-is = stands .rows .what c (j + 1) low inside ∙ ap (λ i. useOf q c i .what) (add-one j) ∙ ap (λ u. u .what) (use-hop q c j on)
 
       after-is : getD afters (placeOf c (j + 1)) 0 ≡ after (q .network) (C c) j
-      after-is = f .rows .after c (j + 1) low inside ∙ ap (λ i. useOf q c i .after) (add-one j) ∙ ap (λ u. u .after) (use-hop q c j on)
+      after-is = stands .rows .after c (j + 1) low inside ∙ ap (λ i. useOf q c i .after) (add-one j) ∙ ap (λ u. u .after) (use-hop q c j on)
 
     port-at : (a j : ℕ) → j < hops (C c) → AtPort (q .network) (series q c a j) (getD whats (placeOf c j) 0)
     unfolding series send inport
-    port-at a zero on = at-local refl (f .rows .what c 0 low (omega (arith, uses-are (q .network) (C c))) ∙ ap (λ u. u .what) (use-first q c))
+    port-at a zero on = at-local refl (stands .rows .what c 0 low (omega (arith, uses-are (q .network) (C c))) ∙ ap (λ u. u .what) (use-first q c))
     port-at a (suc i) on =
         let e : getD whats (placeOf c (suc i)) 0 ≡ hop (C c) i =
-        f .rows .what c (suc i) low (omega (arith, uses-are (q .network) (C c))) ∙ ap (λ u. u .what) (use-hop q c i (omega arith)) in
-        at-buffer (sym e) (omega (arith, e, hop-small q (f .sound) c listed i (omega arith)))
-        (ap (λ b. toRouter (q .network) b) e ∙ f .sound .path c listed .joined i on)
+        stands .rows .what c (suc i) low (omega (arith, uses-are (q .network) (C c))) ∙ ap (λ u. u .what) (use-hop q c i (omega arith)) in
+        at-buffer (sym e) (omega (arith, e, hop-small q (sound) c listed i (omega arith)))
+        (ap (λ b. toRouter (q .network) b) e ∙ sound .path c listed .joined i on)
 
     hop-is : (a j : ℕ) → j < hops (C c) → hopFault whats afters t lines (getD cycles c 0) c a j ≡ seriesFault q (table (q .network) t) c a j
     unfolding hopFault series send
-    hop-is a j on = rw (f .lined, f .rows .cycle c low, after-is j on, out-is j on) (judged-is q (f .sound) t (f .whole) c a j _ (port-at a j on))
+    hop-is a j on = rw (f .lined, stands .rows .cycle c low, after-is j on, out-is j on) (judged-is q (sound) t (f .whole) c a j _ (port-at a j on))
 
     row-is : rowFault whats afters t lines cycles counts masks c
         ≡ first (length (offsetsOf assigned c)) (λ o. first (hops (C c)) (λ j. seriesFault q (table (q .network) t) c (offsetOf assigned c o) j))
     unfolding rowFault circuitFault offsetFault
     row-is =
-        rw (hops-are, ← f .masked .taken c low)
+        rw (hops-are, ← f .planned .masked .taken c low)
         (first-in (offsetsOf assigned c) (λ a. first (hops (C c)) (hopFault whats afters t lines (getD cycles c 0) c a))
         ∙ first-same _ _ _ (λ o h. first-same _ _ _ (λ j on. hop-is _ j on)))
 
@@ -253,19 +259,19 @@ module _ (q : Request) (assigned : List (List ℕ)) (n : ℕ) (cycles demands co
     port-small j on = pick (port-at 0 j on)
       where
         pick : AtPort (q .network) (series q c 0 j) (getD whats (placeOf c j) 0) → getD whats (placeOf c j) 0 < resourcesMost
-        pick (at-local i e) = omega (arith, e, f .sound .owned _ (f .sound .path c listed .known j on), f .sound .routers)
+        pick (at-local i e) = omega (arith, e, sound .owned _ (sound .path c listed .known j on), sound .routers)
         pick (at-buffer i h to) = omega arith
 
     after-small : (j : ℕ) → j < hops (C c) → getD afters (placeOf c (j + 1)) 0 < wordEnd
     unfolding after
-    after-small j on = omega (arith, after-is j on, f .sound .path c listed .few)
+    after-small j on = omega (arith, after-is j on, sound .path c listed .few)
 
     row : Row whats afters (getD cycles c 0) (getD counts c 0 - 1) c
-    row = rw (hops-are, f .rows .cycle c low) (record {
-      cycle-good = record { low = f .sound .path c listed .cycle; high = f .sound .path c listed .short };
-      low = omega (arith, listed, f .sound .circuits);
-      whats-long = omega (arith, listed, f .sound .circuits, f .rows .sized .whats-long, f .sound .path c listed .few);
-      afters-long = omega (arith, listed, f .sound .circuits, f .rows .sized .afters-long, f .sound .path c listed .few);
+    row = rw (hops-are, stands .rows .cycle c low) (record {
+      cycle-good = record { low = sound .path c listed .cycle; high = sound .path c listed .short };
+      low = omega (arith, listed, sound .circuits);
+      whats-long = omega (arith, listed, sound .circuits, stands .rows .sized .whats-long, sound .path c listed .few);
+      afters-long = omega (arith, listed, sound .circuits, stands .rows .sized .afters-long, sound .path c listed .few);
       port = port-small;
       after = after-small;
     })
@@ -273,18 +279,18 @@ module _ (q : Request) (assigned : List (List ℕ)) (n : ℕ) (cycles demands co
   -- what the check finds over the rows is the fault of the request's lines
   pub faults-are : first n (rowFault whats afters t lines cycles counts masks) ≡ linesFault q assigned (table (q .network) t)
   unfolding linesFault
-  faults-are = rw (f .many) (first-same n _ _ row-is)
+  faults-are = rw (stands .many) (first-same n _ _ row-is)
 
   -- the rows are fit for the check
   pub ready : Ready n cycles counts whats afters masks
   ready = record {
-    cycles-long = omega (arith, f .many, f .sound .circuits, f .rows .sized .cycles-long);
-    counts-long = omega (arith, f .many, f .sound .circuits, f .rows .sized .counts-long);
-    masks-long = omega (arith, f .many, f .sound .circuits, f .masked .masks-long);
-    some-hop = λ c h. omega (arith, f .rows .count c h, uses-are (q .network) (C c));
+    cycles-long = omega (arith, stands .many, sound .circuits, stands .rows .sized .cycles-long);
+    counts-long = omega (arith, stands .many, sound .circuits, stands .rows .sized .counts-long);
+    masks-long = omega (arith, stands .many, sound .circuits, f .planned .masked .masks-long);
+    some-hop = λ c h. omega (arith, stands .rows .count c h, uses-are (q .network) (C c));
     row = row;
   }
 
   -- and the lines are fit for `link`
   pub lines-fit : Tabled t lines
-  lines-fit = rw (f .lined) (tabled q (f .sound) t (f .whole))
+  lines-fit = rw (f .lined) (tabled q (sound) t (f .whole))

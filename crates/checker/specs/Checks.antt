@@ -13,10 +13,9 @@ use Rattle.model.specs.Reading.{tableWalk, table}
 use Rattle.model.specs.Answers.{damage}
 use Rattle.model.specs.declared.Answer.{Answer}
 use Rattle.model.specs.declared.Answer.the-variants.{Unserved as UnservedAnswer, Partly as PartlyAnswer, Twice as TwiceAnswer, Astray as AstrayAnswer}
-use Rattle.model.proofs.Sound.{SoundRequest}
 use Rattle.divisor.specs.Common.{Cycle}
 use Rattle.mask.specs.Bits.{offsets}
-use Rattle.plans.specs.Rows.{placeOf, Rows, Masks}
+use Rattle.plans.specs.Rows.{placeOf, RowsAndMasks}
 use Rattle.series.specs.Judging.{judgedOf, judgedAnswer}
 use Rattle.checker.specs.declared.Checked.{Checked}
 use Rattle.checker.specs.declared.Checked.the-variants.{Fine, Unserved, Partly, Twice, Astray}
@@ -80,10 +79,7 @@ pub record Ready (n : ℕ) (cycles counts whats afters masks : List ℕ) : Type 
 
 -- ---- what the rows and the bytes stand for
 
-pub record Facts (q : Request) (assigned : List (List ℕ)) (n : ℕ) (cycles demands counts whats afters masks t : List ℕ) (lines : ℕ) : Type 0 where
-  pub sound : SoundRequest q
-  pub many : length (q .circuits) ≡ n
-  pub rows : Rows q n cycles demands counts whats afters
-  pub masked : Masks q assigned n masks
+pub record Facts (q : Request) (assigned : List (List ℕ)) (n : ℕ) (cycles counts whats afters masks t : List ℕ) (lines : ℕ) : Type 0 where
+  pub planned : RowsAndMasks q assigned n cycles counts whats afters masks
   pub whole : damage tableFile (tableWalk (q .network) t) ≡ none
   pub lined : lines ≡ length (table (q .network) t)

@@ -1,13 +1,11 @@
 // The table check behind reading: the series by circuit, offset and hop, to the first that has a fault. Assumes nothing.
 ghost use mathlib.Core.Path.{_≡_};
-ghost use Prim.Native.Nat.{ℕ, _%_, _<_};
+ghost use Prim.Native.Nat.{ℕ, _<_};
 ghost use mathlib.Core.List.{List};
-ghost use lib.ListN.{length, getD};
-ghost use Rattle.model.specs.Sizes.{cycleMost, linesMost, resourcesMost, wordEnd};
+ghost use Rattle.model.specs.Sizes.{cycleMost};
 ghost use Rattle.model.specs.Network.{Request};
 ghost use Rattle.model.specs.Lines.{linesFault};
 ghost use Rattle.model.specs.Reading.{table};
-ghost use Rattle.divisor.specs.Common.{Cycle};
 ghost use Rattle.chains.specs.Chains.{Linked};
 ghost use Rattle.series.specs.Judging.{judgedAnswer};
 ghost use Rattle.checker.specs.Checks.{checkedAnswer, fine, offsetFault, circuitFault, Row, Ready, Facts};
@@ -170,7 +168,7 @@ pub fn check(
 ) -> Checked
     requires { ⌜ Linked (now t) lines (now head) (now next) ⌝ }
     requires { ⌜ Ready n (now cycles) (now counts) (now whats) (now afters) (now masks) ⌝ }
-    ensures { λ r. ⌜ ((q : Request) (assigned : List (List ℕ)) (demands : List ℕ) → Facts q assigned n (now (cycles .entry)) demands (now (counts .entry)) (now (whats .entry)) (now (afters .entry)) (now (masks .entry)) (now (t .entry)) lines → checkedAnswer r ≡ linesFault q assigned (table (q .network) (now (t .entry)))) ⌝ }
+    ensures { λ r. ⌜ ((q : Request) (assigned : List (List ℕ)) → Facts q assigned n (now (cycles .entry)) (now (counts .entry)) (now (whats .entry)) (now (afters .entry)) (now (masks .entry)) (now (t .entry)) lines → checkedAnswer r ≡ linesFault q assigned (table (q .network) (now (t .entry)))) ⌝ }
 {
     for c in 0..n {
         let cycle = long(cycles[c]);

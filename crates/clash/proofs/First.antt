@@ -21,7 +21,8 @@ use Rattle.model.proofs.Clashing.{holds→, →holds, →clashes, turned, Holds
 use Rattle.model.proofs.Sound.{uses-small}
 use Rattle.model.proofs.Checking.{clash-none, clash-first}
 use Rattle.divisor.specs.Common.{Cycle}
-use Rattle.pairs.specs.Bookings.{Known, bookingAt, Planned, bookedAt}
+use Rattle.plans.specs.Rows.{RowsAndMasks}
+use Rattle.pairs.specs.Bookings.{Known, bookingAt, bookedAt}
 use Rattle.pairs.proofs.Booked.{booking-planned, low-planned}
 use Rattle.clash.specs.Held.{BothIs}
 
@@ -152,7 +153,7 @@ pub record Low (n : ℕ) (cycles masks : List ℕ) : Type 0 where
   pub at : (c : ℕ) → c < n → getD masks c 0 < 2 ^ getD cycles c 0
 
 module _ {q : Request} {assigned : List (List ℕ)} {n : ℕ} {cycles counts whats afters masks : List ℕ}
-    (p : Planned q assigned n cycles counts whats afters masks) where
+    (p : RowsAndMasks q assigned n cycles counts whats afters masks) where
   abbrev B : ℕ → Booking
   B c = bookedAt cycles counts whats afters masks c
 

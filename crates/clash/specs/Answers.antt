@@ -9,7 +9,7 @@ use Rattle.model.specs.declared.Answer.{Answer}
 use Rattle.model.specs.declared.Answer.the-variants.{Clash as ClashAnswer}
 use Rattle.clash.specs.declared.Clash.{Clash}
 use Rattle.clash.specs.declared.Clash.the-variants.{At, Nowhere}
-use Rattle.pairs.specs.Bookings.{Planned}
+use Rattle.plans.specs.Rows.{RowsAndMasks}
 
 abbrev pub clashAnswer : Clash → Option Answer
 clashAnswer (At lower higher slot what) = some (ClashAnswer lower higher slot what)
@@ -18,4 +18,4 @@ clashAnswer Nowhere = none
 -- r tells the first clash of the plan that the rows stand for
 abbrev pub FirstIs : (n : ℕ) (cycles counts whats afters masks : List ℕ) → Clash → Type 0
 FirstIs n cycles counts whats afters masks r =
-    (q : Request) (assigned : List (List ℕ)) → Planned q assigned n cycles counts whats afters masks → clashAnswer r ≡ clashFault q assigned
+    (q : Request) (assigned : List (List ℕ)) → RowsAndMasks q assigned n cycles counts whats afters masks → clashAnswer r ≡ clashFault q assigned

@@ -1,6 +1,6 @@
 // Where a plan first clashes. Assumes nothing.
 ghost use mathlib.Core.Path.{_≡_};
-ghost use Prim.Native.Nat.{ℕ, _+_, _*_, _≤_, _<_};
+ghost use Prim.Native.Nat.{_*_, _<_};
 ghost use lib.ListN.{length, getD};
 ghost use Rattle.model.specs.Sizes.{circuitsMost};
 ghost use Rattle.model.specs.Holding.{clashes?};

@@ -9,7 +9,8 @@ use Rattle.model.specs.Holding.{offsetsClash?}
 use Rattle.model.specs.Search.{clashOf}
 use Rattle.mask.specs.Bits.{bit}
 use Rattle.pairs.specs.Differences.{ahead}
-use Rattle.pairs.specs.Bookings.{bookingAt, Stands}
+use Rattle.plans.specs.Rows.{RowsOf}
+use Rattle.pairs.specs.Bookings.{bookingAt}
 
 -- ---- offsets by the differences that clash
 
@@ -49,4 +50,4 @@ pub record CircuitFilled (cycles counts whats afters : List ℕ) (c n : ℕ) (ol
 
 -- whatever request the rows stand for
 abbrev pub FilledFor : (n : ℕ) (cycles counts whats afters table : List ℕ) → Type 0
-FilledFor n cycles counts whats afters table = (q : Request) → Stands q n cycles counts whats afters → Filled q n table
+FilledFor n cycles counts whats afters table = (q : Request) → RowsOf q n cycles counts whats afters → Filled q n table

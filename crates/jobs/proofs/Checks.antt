@@ -15,13 +15,12 @@ use Rattle.model.specs.Jobs.{check, checkAssignment, requestFault, assignmentFa
 use Rattle.model.specs.declared.Fault.{Fault}
 use Rattle.model.specs.declared.Answer.{Answer}
 use Rattle.model.specs.declared.Answer.the-variants.{Done, Damaged, Clash as ClashAnswer}
-use Rattle.model.proofs.Readers.{request-sound}
 use Rattle.model.proofs.Details.{details-fit}
 use Rattle.records.specs.Fields.{endingOf}
 use Rattle.records.specs.declared.Ending.{Ending}
 use Rattle.records.specs.declared.Ending.the-variants.{Whole, Stopped}
-use Rattle.plans.specs.Rows.{Masks}
-use Rattle.pairs.specs.Bookings.{Lent, Stands as RowsStand}
+use Rattle.plans.specs.Rows.{Masks, RowsAndMasks}
+use Rattle.pairs.specs.Bookings.{Lent}
 use Rattle.clash.specs.Answers.{clashAnswer, FirstIs}
 use Rattle.clash.specs.declared.Clash.{Clash}
 use Rattle.clash.specs.declared.Clash.the-variants.{At}
@@ -32,7 +31,7 @@ use Rattle.loading.specs.declared.Plan.{Plan}
 use Rattle.loading.specs.declared.Offsets.{Offsets}
 use Rattle.jobs.specs.declared.Refusal.{Refusal}
 use Rattle.jobs.specs.declared.Refusal.the-variants.{Nothing, Told}
-use Rattle.loading.proofs.Loading.{request-byte, assignment-byte, numbers-of}
+use Rattle.loading.proofs.Loading.{request-byte, assignment-byte, stands-of, numbers-of}
 
 -- ---- one refusal
 
@@ -98,11 +97,8 @@ module _ (req : List ℕ) (p : Plan) (g : Loads req p) where
       pub numbers-here : Numbers req (p .circuits) (p .cycles) (p .demands)
       numbers-here = numbers-of req p request-holds
 
-      rows-stand : RowsStand (request req) (p .circuits) (p .cycles) (p .counts) (p .whats) (p .afters)
-      rows-stand = let h = request-holds in record { sound = request-sound req (h .fine); many = sym (h .many); demands = p .demands; rows = h .rows }
-
       pub lent-here : Lent (p .circuits) (p .cycles) (p .counts) (p .whats) (p .afters)
-      lent-here = lent rows-stand
+      lent-here = lent (stands-of req p request-holds)
 
 -- ---- the assignment: o is what was loaded of it
 
@@ -143,11 +139,11 @@ module _ (req : List ℕ) (p : Plan) (g : Loads req p) (r : Refusal) (e : refusa
     assignment-fine : assignmentFault Q asg ≡ none
     assignment-fine = sym (assignment-told Q (p .circuits) asg o g′ r′ e′) ∙ ap refusalOf n′
 
-    marks : Masks Q (assignment Q asg) (p .circuits) (o .masks)
-    marks = masks-hold Q (p .circuits) asg o g′ r′ e′ n′
+    planned : RowsAndMasks Q (assignment Q asg) (p .circuits) (p .cycles) (p .counts) (p .whats) (p .afters) (o .masks)
+    planned = record { stands = stands-of req p (request-holds req p g r e n); masked = masks-hold Q (p .circuits) asg o g′ r′ e′ n′ }
 
     clash-is : clashAnswer k ≡ clashFault Q (assignment Q asg)
-    clash-is = is Q (assignment Q asg) (record { stands = rows-stand req p g r e n; offsets-are = marks .taken; low = marks .below })
+    clash-is = is Q (assignment Q asg) planned
 
     all-is : clashAnswer k ≡ refusing req asg
     unfolding _else_
@@ -164,9 +160,4 @@ module _ (req : List ℕ) (p : Plan) (g : Loads req p) (r : Refusal) (e : refusa
 
     pub both-checked : (r″ : Refusal) → refusalOf r″ ≡ clashAnswer k
         → Checks req asg (record { refusal = r″; circuits = p .circuits; cycles = p .cycles; counts = p .counts; whats = p .whats; afters = p .afters; masks = o .masks })
-    both-checked r″ t =
-        let h = request-holds req p g r e n in
-        record {
-          refusal = t ∙ all-is;
-          stands = λ _. record { says = refl; whole = h .fine; each = sym (h .many); demands = p .demands; rows = h .rows; marks = marks };
-        }
+    both-checked r″ t = record { refusal = t ∙ all-is; stands = λ _. record { says = refl; planned = planned } }

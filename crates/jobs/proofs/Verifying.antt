@@ -16,7 +16,7 @@ use Rattle.model.specs.Jobs.{Contract, verify, checkTables}
 use Rattle.model.specs.declared.Answer.{Answer}
 use Rattle.model.specs.declared.Answer.the-variants.{Done}
 use Rattle.model.proofs.Details.{Fit, details-fit}
-use Rattle.pairs.specs.Bookings.{Lent, Stands}
+use Rattle.pairs.specs.Bookings.{Lent}
 use Rattle.clash.specs.Answers.{clashAnswer, FirstIs}
 use Rattle.clash.specs.declared.Clash.{Clash}
 use Rattle.pairs.proofs.Booked.{lent}
@@ -67,25 +67,22 @@ module _ (req asg tab : List ℕ) (n : ℕ) (cycles counts whats afters masks : 
   unfolding checkTables _else_ orDone
   behind = rw (s .request-fine, s .assignment-fine, s .facts .whole) refl
 
-  stands : Stands q n cycles counts whats afters
-  stands = record { sound = s .facts .sound; many = s .facts .many; demands = s .demands; rows = s .facts .rows }
-
   pub rows-lent : Lent n cycles counts whats afters
-  rows-lent = lent stands
+  rows-lent = lent (s .facts .planned .stands)
 
   pub masks-long : length masks ≡ circuitsMost
-  masks-long = s .facts .masked .masks-long
+  masks-long = s .facts .planned .masked .masks-long
 
   pub lines-good : Tabled tab lines
-  lines-good = lines-fit _ _ _ _ _ _ _ _ _ _ _ (s .facts)
+  lines-good = lines-fit _ _ _ _ _ _ _ _ _ _ (s .facts)
 
   pub rows-ready : Ready n cycles counts whats afters masks
-  rows-ready = ready _ _ _ _ _ _ _ _ _ _ _ (s .facts)
+  rows-ready = ready _ _ _ _ _ _ _ _ _ _ (s .facts)
 
   -- x is what was found of the clashes
   module _ (x : Clash) (clash-is : FirstIs n cycles counts whats afters masks x) where
     with-clash : checkTables req asg tab ≡ orDone (clashAnswer x else lines-fault)
-    with-clash = rw (clash-is q assigned (record { stands = stands; offsets-are = s .facts .masked .taken; low = s .facts .masked .below })) behind
+    with-clash = rw (clash-is q assigned (s .facts .planned)) behind
 
     clash-fits : Fits (clashAnswer x)
     clash-fits = first-fits (clashAnswer x) lines-fault (rw with-clash at (details-fit (verify req asg tab) tt))
@@ -103,13 +100,13 @@ module _ (req asg tab : List ℕ) (n : ℕ) (cycles counts whats afters masks : 
 
       -- y is what was found of the lines
       module _ (h : f ≡ Nothing) (y : Checked)
-          (lines-are-so : (q : Request) (assigned : List (List ℕ)) (demands : List ℕ) → Facts q assigned n cycles demands counts whats afters masks tab lines
+          (lines-are-so : (q : Request) (assigned : List (List ℕ)) → Facts q assigned n cycles counts whats afters masks tab lines
           → checkedAnswer y ≡ linesFault q assigned (table (q .network) tab)) where
         with-lines : checkTables req asg tab ≡ orDone (checkedAnswer y)
         unfolding orDone _else_
         with-lines =
             let none-found : clashAnswer x ≡ none = sym is ∙ ap refusalOf h in
-            with-clash ∙ rw (none-found, lines-are-so q assigned (s .demands) (s .facts)) refl
+            with-clash ∙ rw (none-found, lines-are-so q assigned (s .facts)) refl
 
         pub lines-fits : Fits (checkedAnswer y)
         lines-fits = record { fit = rw with-lines at (details-fit (verify req asg tab) tt) }

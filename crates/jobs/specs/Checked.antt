@@ -17,7 +17,7 @@ use Rattle.records.specs.declared.Ending.{Ending}
 use Rattle.records.specs.declared.Ending.the-variants.{Whole, Stopped}
 use Rattle.clash.specs.declared.Clash.{Clash}
 use Rattle.clash.specs.declared.Clash.the-variants.{At}
-use Rattle.maker.specs.Files.{Stands}
+use Rattle.maker.specs.Files.{Said}
 use Rattle.checker.specs.Checks.{Facts}
 use Rattle.jobs.specs.declared.Refusal.{Refusal}
 use Rattle.jobs.specs.declared.Refusal.the-variants.{Nothing, Told}
@@ -49,11 +49,10 @@ refusing req asg = requestFault req else assignmentFault (request req) asg else 
 pub record Checks (req asg : List ℕ) (k : Checked) : Type 0 where
   pub refusal : refusalOf (k .refusal) ≡ refusing req asg
   pub stands : k .refusal ≡ Nothing
-      → Stands req (request req) (assignment (request req) asg) (k .circuits) (k .cycles) (k .counts) (k .whats) (k .afters) (k .masks)
+      → Said req (request req) (assignment (request req) asg) (k .circuits) (k .cycles) (k .counts) (k .whats) (k .afters) (k .masks)
 
 -- the rows, the masks and the lines of a request, an assignment and a table, all without a fault
 pub record AllRead (req asg tab : List ℕ) (n : ℕ) (cycles counts whats afters masks : List ℕ) (lines : ℕ) : Type 0 where
   pub request-fine : requestFault req ≡ none
   pub assignment-fine : assignmentFault (request req) asg ≡ none
-  pub demands : List ℕ
-  pub facts : Facts (request req) (assignment (request req) asg) n cycles demands counts whats afters masks tab lines
+  pub facts : Facts (request req) (assignment (request req) asg) n cycles counts whats afters masks tab lines

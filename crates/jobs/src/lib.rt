@@ -122,7 +122,7 @@ fn check_lines(
 ) -> checker::Checked
     requires { ⌜ Tabled (now t) lines ⌝ }
     requires { ⌜ Ready n (now cycles) (now counts) (now whats) (now afters) (now masks) ⌝ }
-    ensures { λ r. ⌜ ((q : Request) (assigned : List (List ℕ)) (demands : List ℕ) → Facts q assigned n (now (cycles .entry)) demands (now (counts .entry)) (now (whats .entry)) (now (afters .entry)) (now (masks .entry)) (now (t .entry)) lines → checkedAnswer r ≡ linesFault q assigned (table (q .network) (now (t .entry)))) ⌝ }
+    ensures { λ r. ⌜ ((q : Request) (assigned : List (List ℕ)) → Facts q assigned n (now (cycles .entry)) (now (counts .entry)) (now (whats .entry)) (now (afters .entry)) (now (masks .entry)) (now (t .entry)) lines → checkedAnswer r ≡ linesFault q assigned (table (q .network) (now (t .entry)))) ⌝ }
 {
     let mut head = [0u16; RESOURCES_MOST];
     let mut next = [0u16; LINES_MOST];

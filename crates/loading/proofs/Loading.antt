@@ -17,7 +17,7 @@ use Rattle.reader.specs.declared.Plan.{Plan as Read}
 use Rattle.reader.proofs.Parts.{reads-of, count-is, few, start-here}
 use Rattle.booked.specs.Parts.{OfRequest, bookedOf}
 use Rattle.booked.specs.declared.Booked.{Booked}
-use Rattle.plans.specs.Rows.{Rows, Starts, Ready, Bookings, Masks}
+use Rattle.plans.specs.Rows.{Rows, RowsOf, Starts, Ready, Bookings, Masks}
 use Rattle.plans.proofs.Callers.{of-request, booked-long, ready-of, bookings-of}
 use Rattle.loading.specs.Loaded.{Loads, Holds, Numbers, LoadsOffsets}
 use Rattle.loading.specs.declared.Plan.{Plan}
@@ -62,6 +62,9 @@ module _ (s : List ℕ) (p : Plan) (l : Loads s p) (f : Fault) (b : ℕ) (h : p 
 
   pub request-byte : b < detailEnd
   request-byte = request-byte-fits s f b request-stops
+
+pub stands-of : (s : List ℕ) (p : Plan) → Holds s p → RowsOf (request s) (p .circuits) (p .cycles) (p .counts) (p .whats) (p .afters)
+stands-of s p h = record { sound = request-sound s (h .fine); many = sym (h .many); demands = p .demands; rows = h .rows }
 
 pub numbers-of : (s : List ℕ) (p : Plan) → Holds s p → Numbers s (p .circuits) (p .cycles) (p .demands)
 numbers-of s p h = record { fine = h .fine; many = h .many; few = h .few; counts = p .counts; whats = p .whats; afters = p .afters; rows = h .rows }

@@ -13,12 +13,11 @@ use Rattle.model.specs.Lines.{Line, series, offsetOf, lineFor, linesFor}
 use Rattle.model.specs.Reading.{buffersOf}
 use Rattle.model.specs.Jobs.{lineBody, tableBytes}
 use Rattle.model.proofs.Sound.{SoundPath, SoundRequest, hop-small}
-use Rattle.model.proofs.Readers.{from-is, buffers-are, request-sound}
-use Rattle.mask.specs.Bits.{offsets}
+use Rattle.model.proofs.Readers.{from-is, buffers-are}
 use Rattle.plans.specs.Rows.{usesMost, placeOf}
 use Rattle.plans.proofs.Uses.{uses-are, use-first, use-hop}
 use Rattle.writer.specs.Pasting.{Laid}
-use Rattle.maker.specs.Files.{lineRecord, hopPlace, inpAt, hopBytes, offsetBytes, circuitBytes, rowBytes, tableSize, UsesFit, RowsFit, TableFits, Stands, WroteTable}
+use Rattle.maker.specs.Files.{lineRecord, hopPlace, inpAt, hopBytes, offsetBytes, circuitBytes, rowBytes, tableSize, UsesFit, RowsFit, TableFits, Said, WroteTable}
 use Rattle.writer.proofs.Lists.{leftOf, upTo-same, map-upTo, map-by-number, joined-map}
 use Rattle.writer.proofs.Rest.{Rest, rest-start, part-end}
 use Rattle.writer.proofs.Files.{end-laid}
@@ -43,9 +42,9 @@ uses-fit {n} {cycles} {counts} {whats} {afters} f c h =
 -- ---- rows that stand for a request and its offsets
 
 module _ (req : List ℕ) (q : Request) (assigned : List (List ℕ)) (n : ℕ) (cycles counts whats afters masks : List ℕ)
-    (s : Stands req q assigned n cycles counts whats afters masks) where
-  pub stands-sound : SoundRequest q
-  stands-sound = rw (s .says) at (request-sound req (s .whole))
+    (s : Said req q assigned n cycles counts whats afters masks) where
+  sound : SoundRequest q
+  sound = s .planned .stands .sound
 
   -- one circuit
   module _ (c : ℕ) (h : c < n) where
@@ -53,19 +52,19 @@ module _ (req : List ℕ) (q : Request) (assigned : List (List ℕ)) (n : ℕ) (
     C = circuitOf q c
 
     listed : c < length (q .circuits)
-    listed = omega (arith, s .each)
+    listed = omega (arith, s .planned .stands .many)
 
     path : SoundPath (q .network) C
-    path = stands-sound .path c listed
+    path = sound .path c listed
 
     count-is : getD counts c 0 ≡ suc (hops C)
-    count-is = s .rows .count c h ∙ uses-are (q .network) C
+    count-is = s .planned .stands .rows .count c h ∙ uses-are (q .network) C
 
     buffer-is : (j : ℕ) → j < hops C → getD whats (placeOf c (suc j)) 0 ≡ hop C j
-    buffer-is j k = s .rows .what c (suc j) h (omega (arith, uses-are (q .network) C)) ∙ ap (λ u. u .what) (use-hop q c j k)
+    buffer-is j k = s .planned .stands .rows .what c (suc j) h (omega (arith, uses-are (q .network) C)) ∙ ap (λ u. u .what) (use-hop q c j k)
 
     after-is : (j : ℕ) → j < hops C → getD afters (placeOf c (suc j)) 0 ≡ after (q .network) C j
-    after-is j k = s .rows .after c (suc j) h (omega (arith, uses-are (q .network) C)) ∙ ap (λ u. u .after) (use-hop q c j k)
+    after-is j k = s .planned .stands .rows .after c (suc j) h (omega (arith, uses-are (q .network) C)) ∙ ap (λ u. u .after) (use-hop q c j k)
 
     inport-is : (j : ℕ) → j < hops C → inpAt whats (c * usesMost) j ≡ inport C j
     unfolding inpAt inport
@@ -84,7 +83,7 @@ module _ (req : List ℕ) (q : Request) (assigned : List (List ℕ)) (n : ℕ) (
         let e : hopPlace (c * usesMost) j ≡ placeOf c (suc j) = omega arith in
         let out : getD whats (hopPlace (c * usesMost) j) 0 ≡ hop C j = ap (λ i. getD whats i 0) e ∙ buffer-is j k in
         let late : getD afters (hopPlace (c * usesMost) j) 0 ≡ after (q .network) C j = ap (λ i. getD afters i 0) e ∙ after-is j k in
-        let cycle = s .rows .cycle c h in
+        let cycle = s .planned .stands .rows .cycle c h in
         let router = ap (λ b. byteAt req (8 + 2 * b)) out ∙ router-is j k in
         (λ i. lineRecord (router i) (cycle i) ((a + late i) % cycle i) (inport-is j k i) (out i))
 
@@ -107,7 +106,7 @@ module _ (req : List ℕ) (q : Request) (assigned : List (List ℕ)) (n : ℕ) (
     circuit-is =
         let g = offsetBytes req whats afters (c * usesMost) (getD counts c 0 - 1) (getD cycles c 0) in
         let os = offsetsOf assigned c in
-        ap (λ l. joined (map g l)) (sym (s .marks .taken c h))
+        ap (λ l. joined (map g l)) (sym (s .planned .masked .taken c h))
         ∙ ap joined (map-by-number g os 0 ∙ upTo-same (length os) (λ o. g (getD os o 0)) (λ o. joined (map R (ofOffset (getD os o 0)))) (λ o k. offset-is (getD os o 0))
         ∙ sym (map-upTo (λ l. joined (map R l)) (length os) (λ o. ofOffset (getD os o 0))))
         ∙ sym (joined-map R (upTo (length os) (λ o. ofOffset (getD os o 0))))
@@ -118,36 +117,36 @@ module _ (req : List ℕ) (q : Request) (assigned : List (List ℕ)) (n : ℕ) (
         let some = path .some in
         omega (
           arith,
-          s .rows .what c 0 h (omega (arith, uses-are (q .network) C)),
+          s .planned .stands .rows .what c 0 h (omega (arith, uses-are (q .network) C)),
           ap (λ u. u .what) (use-first q c),
-          stands-sound .owned (hop C 0) (path .known 0 some),
-          stands-sound .routers,
+          sound .owned (hop C 0) (path .known 0 some),
+          sound .routers,
         )
-    what-small (suc j) k = let l : j < hops C = omega (arith, count-is) in omega (arith, buffer-is j l, hop-small q stands-sound c listed j l)
+    what-small (suc j) k = let l : j < hops C = omega (arith, count-is) in omega (arith, buffer-is j l, hop-small q sound c listed j l)
 
     after-small : (i : ℕ) → i < getD counts c 0 → getD afters (placeOf c i) 0 < wordEnd
     unfolding after
-    after-small zero k = omega (arith, s .rows .after c 0 h (omega (arith, uses-are (q .network) C)), ap (λ u. u .after) (use-first q c))
+    after-small zero k = omega (arith, s .planned .stands .rows .after c 0 h (omega (arith, uses-are (q .network) C)), ap (λ u. u .after) (use-first q c))
     after-small (suc j) k = let l : j < hops C = omega (arith, count-is) in omega (arith, after-is j l, path .few)
 
   -- what the writer of the table needs, but for the room
   pub rows-fit : RowsFit n cycles counts whats afters masks
   rows-fit =
-      let long = s .rows .sized in
-      let few : n ≤ circuitsMost = omega (arith, stands-sound .circuits, s .each) in
+      let long = s .planned .stands .rows .sized in
+      let few : n ≤ circuitsMost = omega (arith, sound .circuits, s .planned .stands .many) in
       record {
         counts-fit = record {
           few = few;
           counts-long = omega (arith, long .counts-long);
-          masks-long = omega (arith, s .marks .masks-long);
+          masks-long = omega (arith, s .planned .masked .masks-long);
           count = λ c h. omega (arith, count-is c h);
           most = λ c h. omega (arith, count-is c h, path c h .few);
         };
         cycles-long = omega (arith, long .cycles-long);
         whats-long = omega (arith, long .whats-long);
         afters-long = omega (arith, long .afters-long);
-        cycle = λ c h. omega (arith, s .rows .cycle c h, path c h .cycle);
-        short = λ c h. omega (arith, s .rows .cycle c h, path c h .short);
+        cycle = λ c h. omega (arith, s .planned .stands .rows .cycle c h, path c h .cycle);
+        short = λ c h. omega (arith, s .planned .stands .rows .cycle c h, path c h .short);
         what = λ c i h k. what-small c h i k;
         after = λ c i h k. after-small c h i k;
       }
@@ -160,7 +159,7 @@ module _ (req : List ℕ) (q : Request) (assigned : List (List ℕ)) (n : ℕ) (
       let R : Line → List ℕ = λ l. recordOf lineKind (lineBody l) in
       let f : ℕ → List Line = λ c. joined (upTo (length (offsetsOf assigned c)) (λ o. upTo (hops (circuitOf q c)) (λ j. lineFor (series q c (offsetOf assigned c o) j)))) in
       ap (λ b. b ++ recordOf endKind [])
-      (ap (λ k. joined (map R (joined (upTo k f)))) (s .each)
+      (ap (λ k. joined (map R (joined (upTo k f)))) (s .planned .stands .many)
       ∙ joined-map R (upTo n f)
       ∙ ap joined (map-upTo (λ l. joined (map R l)) n f ∙ upTo-same n (λ c. joined (map R (f c))) (rowBytes req cycles counts whats afters masks) (λ c h. sym (circuit-is c h))))
 

@@ -2,7 +2,6 @@
 use Prim.Native.Nat.{ℕ, zero, suc, _+_, _*_, _-_, _%_, _≤_, _<_}
 use mathlib.Core.Path.{_≡_}
 use mathlib.Core.List.{List, map}
-use mathlib.Core.Option.{none}
 use lib.ListN.{length, getD}
 use Rattle.model.specs.Sizes.{headSize, lineSize, circuitsMost, cycleMost, wordEnd, local, lineKind}
 use Rattle.model.specs.Tests.{upTo, joined, sum}
@@ -10,9 +9,9 @@ use Rattle.model.specs.Bytes.{byteAt, recordOf}
 use Rattle.model.specs.Network.{Request}
 use Rattle.model.specs.Lines.{linesFor}
 use Rattle.model.specs.Reading.{request}
-use Rattle.model.specs.Jobs.{lineBody, tableBytes, requestFault}
+use Rattle.model.specs.Jobs.{lineBody, tableBytes}
 use Rattle.mask.specs.Bits.{offsets}
-use Rattle.plans.specs.Rows.{usesMost, placeOf, Rows, Masks}
+use Rattle.plans.specs.Rows.{usesMost, placeOf, RowsAndMasks}
 use Rattle.writer.specs.Files.{Wrote}
 
 -- the record of a line
@@ -92,15 +91,11 @@ pub record TableFits (n : ℕ) (cycles counts whats afters masks out : List ℕ)
 
 -- ---- and what it tells
 
--- the rows and the masks stand for the request q, which req says, and these offsets
-pub record Stands (req : List ℕ) (q : Request) (assigned : List (List ℕ)) (n : ℕ) (cycles counts whats afters masks : List ℕ) : Type 0 where
+-- req says the request q, and the rows and the masks stand for it and these offsets
+pub record Said (req : List ℕ) (q : Request) (assigned : List (List ℕ)) (n : ℕ) (cycles counts whats afters masks : List ℕ) : Type 0 where
   pub says : request req ≡ q
-  pub whole : requestFault req ≡ none
-  pub each : length (q .circuits) ≡ n
-  pub demands : List ℕ
-  pub rows : Rows q n cycles demands counts whats afters
-  pub marks : Masks q assigned n masks
+  pub planned : RowsAndMasks q assigned n cycles counts whats afters masks
 
 pub record WroteTable (req : List ℕ) (n : ℕ) (cycles counts whats afters masks old new : List ℕ) (r : ℕ) : Type 0 where
-  pub wrote : (q : Request) (assigned : List (List ℕ)) → Stands req q assigned n cycles counts whats afters masks
+  pub wrote : (q : Request) (assigned : List (List ℕ)) → Said req q assigned n cycles counts whats afters masks
       → Wrote (tableBytes (linesFor q assigned)) old new r

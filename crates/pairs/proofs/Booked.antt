@@ -11,11 +11,11 @@ use Rattle.model.specs.Holding.{booking, offsetsClash?, clashes?}
 use Rattle.model.specs.Search.{clashOf}
 use Rattle.model.proofs.Tests.{upTo-back}
 use Rattle.divisor.specs.Common.{Common}
-use Rattle.plans.specs.Rows.{usesMost, noUse}
+use Rattle.plans.specs.Rows.{usesMost, noUse, RowsOf, RowsAndMasks}
 use Rattle.plans.proofs.Uses.{uses-few}
 use Rattle.mask.specs.Bits.{bit, offsets}
 use Rattle.pairs.specs.Differences.{ahead, useAt, usesAt, usesIn, Placed, Bad, hitsAny}
-use Rattle.pairs.specs.Bookings.{Long, Known, Lent, bookingAt, Stands, Planned}
+use Rattle.pairs.specs.Bookings.{Long, Known, Lent, bookingAt}
 use Rattle.pairs.proofs.Hitting.{bad-clash, hits-clashes, no-hits}
 
 -- ---- the rows are as the code wants them
@@ -27,7 +27,7 @@ placed l k =
     record { listed = omega arith; there = record { whats-in = omega arith; afters-in = omega arith } }
 
 -- where they stand for a request
-pub lent : {q : Request} {n : ℕ} {cycles counts whats afters : List ℕ} → Stands q n cycles counts whats afters → Lent n cycles counts whats afters
+pub lent : {q : Request} {n : ℕ} {cycles counts whats afters : List ℕ} → RowsOf q n cycles counts whats afters → Lent n cycles counts whats afters
 lent {q} {n} {cycles} {counts} s =
     let z = s .rows .sized in
     record {
@@ -63,7 +63,7 @@ module _ (cycles counts whats afters : List ℕ) (c e mc me : ℕ) {x y g bad : 
 
 -- ---- rows that stand for the circuits of a request
 
-module _ {q : Request} {n : ℕ} {cycles counts whats afters : List ℕ} (s : Stands q n cycles counts whats afters) {c : ℕ} (h : c < n) where
+module _ {q : Request} {n : ℕ} {cycles counts whats afters : List ℕ} (s : RowsOf q n cycles counts whats afters) {c : ℕ} (h : c < n) where
   pub uses-stand : usesIn counts whats afters c ≡ uses (q .network) (circuitOf q c)
   unfolding usesAt useAt
   uses-stand =
@@ -78,18 +78,18 @@ module _ {q : Request} {n : ℕ} {cycles counts whats afters : List ℕ} (s : St
   booking-stands m e = rw (s .rows .cycle c h, uses-stand, e) refl
 
 -- the test of two offsets does not ask for the offsets of the circuits
-pub clash-stands : {q : Request} {n : ℕ} {cycles counts whats afters : List ℕ} → Stands q n cycles counts whats afters → {c e : ℕ} → c < n → e < n
+pub clash-stands : {q : Request} {n : ℕ} {cycles counts whats afters : List ℕ} → RowsOf q n cycles counts whats afters → {c e : ℕ} → c < n → e < n
     → (a b m k : ℕ) → offsetsClash? (bookingAt cycles counts whats afters c m) a (bookingAt cycles counts whats afters e k) b ≡ clashOf q c a e b
 unfolding clashOf offsetsClash? booking
 clash-stands s hc he a b m k = rw (booking-stands s hc m refl, booking-stands s he k refl) refl
 
 -- with the offsets of a plan
 pub booking-planned : {q : Request} {assigned : List (List ℕ)} {n : ℕ} {cycles counts whats afters masks : List ℕ}
-    → Planned q assigned n cycles counts whats afters masks → {c : ℕ} → c < n → bookingAt cycles counts whats afters c (getD masks c 0) ≡ booking q assigned c
+    → RowsAndMasks q assigned n cycles counts whats afters masks → {c : ℕ} → c < n → bookingAt cycles counts whats afters c (getD masks c 0) ≡ booking q assigned c
 unfolding booking
-booking-planned {masks = masks} p {c} h = booking-stands (p .stands) h (getD masks c 0) (sym (p .offsets-are _ h))
+booking-planned {masks = masks} p {c} h = booking-stands (p .stands) h (getD masks c 0) (sym (p .masked .taken _ h))
 
 -- which are below its cycle
 pub low-planned : {q : Request} {assigned : List (List ℕ)} {n : ℕ} {cycles counts whats afters masks : List ℕ}
-    → Planned q assigned n cycles counts whats afters masks → {c : ℕ} → c < n → getD masks c 0 < 2 ^ getD cycles c 0
-low-planned p {c} h = rw (p .stands .rows .cycle c h) (p .low c h)
+    → RowsAndMasks q assigned n cycles counts whats afters masks → {c : ℕ} → c < n → getD masks c 0 < 2 ^ getD cycles c 0
+low-planned p {c} h = rw (p .stands .rows .cycle c h) (p .masked .below c h)

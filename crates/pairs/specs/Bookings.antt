@@ -1,14 +1,12 @@
 -- What circuits hold, as rows of numbers say it, and how the rows belong to a request. Assumes nothing: these are definitions.
-use Prim.Native.Nat.{ℕ, _+_, _*_, _^_, _≤_, _<_}
+use Prim.Native.Nat.{ℕ, _*_, _≤_, _<_}
 use mathlib.Core.Path.{_≡_}
 use mathlib.Core.List.{List}
 use lib.ListN.{length, getD}
 use Rattle.model.specs.Sizes.{circuitsMost}
-use Rattle.model.specs.Network.{Request, circuitOf}
-use Rattle.model.specs.Holding.{Booking, offsetsOf}
-use Rattle.model.proofs.Sound.{SoundRequest}
+use Rattle.model.specs.Holding.{Booking}
 use Rattle.divisor.specs.Common.{Cycle}
-use Rattle.plans.specs.Rows.{Rows, usesMost}
+use Rattle.plans.specs.Rows.{usesMost}
 use Rattle.mask.specs.Bits.{offsets}
 use Rattle.pairs.specs.Differences.{usesIn}
 
@@ -42,17 +40,3 @@ bookingAt cycles counts whats afters c m =
 -- with the offsets of its mask
 abbrev pub bookedAt : (cycles counts whats afters masks : List ℕ) (c : ℕ) → Booking
 bookedAt cycles counts whats afters masks c = bookingAt cycles counts whats afters c (getD masks c 0)
-
--- ---- how the rows belong to a request
-
-pub record Stands (q : Request) (n : ℕ) (cycles counts whats afters : List ℕ) : Type 0 where
-  pub sound : SoundRequest q
-  pub many : length (q .circuits) ≡ n
-  pub demands : List ℕ
-  pub rows : Rows q n cycles demands counts whats afters
-
--- and the masks to the offsets of its circuits
-pub record Planned (q : Request) (assigned : List (List ℕ)) (n : ℕ) (cycles counts whats afters masks : List ℕ) : Type 0 where
-  pub stands : Stands q n cycles counts whats afters
-  pub offsets-are : (c : ℕ) → c < n → offsetsOf assigned c ≡ offsets (getD masks c 0)
-  pub low : (c : ℕ) → c < n → getD masks c 0 < 2 ^ circuitOf q c .cycle

@@ -1,22 +1,21 @@
 -- Laws for callers: the bounds of the rows that `decode` leaves, and what `fill_masks` asks for.
 -- Assumes nothing.
-use Prim.Native.Nat.{ℕ, zero, suc, _+_, _-_, _≤_, _<_}
+use Prim.Native.Nat.{ℕ, zero, suc, _-_, _≤_, _<_}
 use mathlib.Core.Path.{_≡_, refl, ap, _∙_}
 use mathlib.Core.List.{List, [], _∷_, List·Memᴰ·head, List·Memᴰ·tail}
 use native.Mathlib.Nat.{not-suc-le-zero, le-of-suc-le-suc}
 use native.Mathlib.Omega.{arith}
-use lib.ListN.{length, getD, replicate, length-append, length-replicate}
+use lib.ListN.{length, getD, length-append, length-replicate}
 use Rattle.model.specs.Sizes.{circuitsMost, hopsMost, resourcesMost}
 use Rattle.model.specs.Tests.{_∈_}
 use Rattle.model.specs.Network.{Request, uses, circuitOf, hops, after}
-use Rattle.model.specs.Reading.{starts, requestWalk}
 use Rattle.model.proofs.Sound.{SoundRequest, SoundPath, uses-small}
 use Rattle.model.proofs.Readers.{offsets-free}
 use Rattle.records.specs.declared.Ending.the-variants.{Whole}
 use Rattle.booked.specs.Parts.{OfRequest, bookedOf}
 use Rattle.booked.specs.declared.Booked.{Booked}
 use Rattle.booked.proofs.Parts.{file-whole, booked-here}
-use Rattle.plans.specs.Rows.{noUse, usesOf, whatOf, afterOf, Rows, Bounded, Starts, Ready, Bookings}
+use Rattle.plans.specs.Rows.{noUse, usesOf, whatOf, afterOf, Rows, Bounded, Ready, Bookings}
 use Rattle.plans.proofs.Uses.{uses-are, use-first, use-hop, uses-few}
 use Rattle.plans.proofs.Masking.{rising-of}
 

@@ -12,6 +12,7 @@ use Rattle.model.specs.Tests.{upTo}
 use Rattle.model.specs.Search.{Rises}
 use Rattle.model.specs.Reading.{offsetAt, request}
 use Rattle.model.specs.Jobs.{requestFault}
+use Rattle.model.proofs.Sound.{SoundRequest}
 use Rattle.parts.specs.Parts.{StartsAt}
 use Rattle.booked.specs.Parts.{BookedAt}
 use Rattle.mask.specs.Bits.{offsets}
@@ -68,6 +69,18 @@ pub record Masks (q : Request) (assigned : List (List ℕ)) (n : ℕ) (masks : L
   pub masks-long : length masks ≡ circuitsMost
   pub taken : (c : ℕ) → c < n → offsetsOf assigned c ≡ offsets (getD masks c 0)
   pub below : (c : ℕ) → c < n → getD masks c 0 < 2 ^ circuitOf q c .cycle
+
+-- the rows stand for the n circuits of a sound request
+pub record RowsOf (q : Request) (n : ℕ) (cycles counts whats afters : List ℕ) : Type 0 where
+  pub sound : SoundRequest q
+  pub many : length (q .circuits) ≡ n
+  pub demands : List ℕ
+  pub rows : Rows q n cycles demands counts whats afters
+
+-- and the masks for the offsets of its circuits
+pub record RowsAndMasks (q : Request) (assigned : List (List ℕ)) (n : ℕ) (cycles counts whats afters masks : List ℕ) : Type 0 where
+  pub stands : RowsOf q n cycles counts whats afters
+  pub masked : Masks q assigned n masks
 
 -- the record of count offsets that starts at byte p of s lies in the file, and its offsets rise and are below a longest cycle
 pub record Rising (s : List ℕ) (p count : ℕ) : Type 0 where

@@ -1,10 +1,10 @@
 // Bytes and numbers of a file by position, 0 past the end, and the steps over its records that all
 // three files share.
 ghost use mathlib.Core.Path.{_≡_};
-ghost use Prim.Native.Nat.{ℕ, _+_, _*_, _≤_, _<_, _^_};
+ghost use Prim.Native.Nat.{_+_, _*_, _≤_, _<_, _^_};
 ghost use lib.ListN.{length};
 ghost use Rattle.model.specs.Sizes.{wordEnd};
-ghost use Rattle.model.specs.Reading.{onward, endStep, andThen};
+ghost use Rattle.model.specs.Reading.{onward, endStep};
 ghost use Rattle.records.specs.Fields.{Byte, Word, isFine};
 use model::FROM_AT;
 use model::Fault;

@@ -20,7 +20,7 @@ pub fn text(words: &[u8]) {
     io::write_all(STDOUT_FILENO, words);
 }
 
-pub fn number(n: usize) {
+fn number(n: usize) {
     io::print_decimal(STDOUT_FILENO, n as u64);
 }
 

@@ -1,6 +1,6 @@
 -- Sets of resources: what loops have put into them, and that words without a common bit share no resource. Assumes nothing.
-use Prim.Native.Nat.{ℕ, _+_, _*_, _/_, _%_, _^_, _≤_, _<_}
-use mathlib.Core.Path.{_≡_, refl, sym, ap, _∙_}
+use Prim.Native.Nat.{ℕ, _+_, _/_, _%_, _^_, _≤_, _<_}
+use mathlib.Core.Path.{_≡_, refl, ap, _∙_}
 use mathlib.Core.Bool.{true}
 use mathlib.Core.List.{List}
 use native.Mathlib.Nat.{zero-div}
@@ -12,7 +12,7 @@ use lib.Seq.{getD-set-same, getD-set-other}
 use lib.Bits.{bitAnd, and-shr, and-step}
 use Rattle.plans.specs.Rows.{placeOf}
 use Rattle.mask.specs.Bits.{bit, Marked}
-use Rattle.sets.specs.Sets.{wordBits, setWords, setAt, wordAt, InSet, Grown, Listed, Collected, SetOf, SetsOf, Apart}
+use Rattle.sets.specs.Sets.{wordBits, setWords, setAt, wordAt, InSet, Grown, Collected, SetOf, SetsOf, Apart}
 use Rattle.mask.proofs.Laws.{marked-kept, marked-new}
 
 -- ---- one resource more

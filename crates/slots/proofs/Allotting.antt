@@ -16,9 +16,9 @@ use Rattle.model.specs.Reading.{request}
 use Rattle.model.specs.Jobs.{assignmentSize}
 use Rattle.model.proofs.Sound.{SoundRequest}
 use Rattle.model.proofs.Readers.{request-sound}
-use Rattle.plans.specs.Rows.{Bounded}
+use Rattle.plans.specs.Rows.{Bounded, RowsOf}
 use Rattle.plans.proofs.Callers.{rows-bounded}
-use Rattle.pairs.specs.Bookings.{Lent, Stands}
+use Rattle.pairs.specs.Bookings.{Lent}
 use Rattle.pairs.proofs.Booked.{lent}
 use Rattle.grid.specs.Table.{FilledFor}
 use Rattle.search.specs.Code.{tableSize, circuits, clashIn, Ready, Right, NumbersOf, Replies}
@@ -27,6 +27,7 @@ use Rattle.search.proofs.Bridge.{bridge}
 use Rattle.writer.proofs.Lists.{upTo-same, map-by-number, sum-more}
 use Rattle.loading.specs.Loaded.{Holds}
 use Rattle.loading.specs.declared.Plan.{Plan}
+use Rattle.loading.proofs.Loading.{stands-of}
 
 -- ---- the bytes of an assignment
 
@@ -88,8 +89,8 @@ module _ (s : List ℕ) (p : Plan) (h : Holds s p) where
 
   -- ---- the search
 
-  stands : Stands (request s) (p .circuits) (p .cycles) (p .counts) (p .whats) (p .afters)
-  stands = record { sound = sound; many = sym (h .many); demands = p .demands; rows = h .rows }
+  stands : RowsOf (request s) (p .circuits) (p .cycles) (p .counts) (p .whats) (p .afters)
+  stands = stands-of s p h
 
   pub lent-here : Lent (p .circuits) (p .cycles) (p .counts) (p .whats) (p .afters)
   lent-here = lent stands

@@ -1,11 +1,10 @@
 -- What the answers of the layers below are in the words of the jobs, for `search`. Assumes nothing.
 use Prim.Native.Nat.{ℕ, _<_}
-use mathlib.Core.Path.{_≡_, refl, sym, ap, _∙_}
+use mathlib.Core.Path.{_≡_, refl, _∙_}
 use mathlib.Core.List.{List, []}
-use mathlib.Core.Option.{none, some}
 use Rattle.model.specs.Sizes.{requestFile, detailEnd}
 use Rattle.model.specs.Tests.{orElse}
-use Rattle.model.specs.Jobs.{Contract, read, readRequest, requestFault}
+use Rattle.model.specs.Jobs.{Contract, read, readRequest}
 use Rattle.model.specs.declared.Fault.{Fault}
 use Rattle.model.specs.declared.Answer.{Answer}
 use Rattle.model.specs.declared.Answer.the-variants.{Done, Damaged}

@@ -11,7 +11,7 @@ use Rattle.model.specs.Jobs.{Contract, verify, checkTables, assignmentFault}
 use Rattle.model.specs.declared.Fault.{Fault}
 use Rattle.model.specs.declared.Answer.{Answer}
 use Rattle.model.specs.declared.Answer.the-variants.{Damaged}
-use Rattle.model.proofs.Readers.{request-sound, table-byte-fits}
+use Rattle.model.proofs.Readers.{table-byte-fits}
 use Rattle.records.specs.declared.Ending.the-variants.{Whole, Stopped}
 use Rattle.records.proofs.Endings.{ends-whole}
 use Rattle.lined.specs.Parts.{linedOf}
@@ -22,7 +22,7 @@ use Rattle.loading.specs.Loaded.{Holds, Loads, LoadsOffsets, Numbers}
 use Rattle.jobs.specs.Checked.{AllRead}
 use Rattle.loading.specs.declared.Plan.{Plan}
 use Rattle.loading.specs.declared.Offsets.{Offsets}
-use Rattle.loading.proofs.Loading.{request-stops, numbers-of, assignment-stops}
+use Rattle.loading.proofs.Loading.{request-stops, stands-of, numbers-of, assignment-stops}
 
 -- ---- the request: p is what was loaded of it
 
@@ -80,12 +80,8 @@ module _ (req : List ℕ) (p : Plan) (l : Loads req p) where
           all-read wd = record {
             request-fine = held .fine;
             assignment-fine = assigned-fine;
-            demands = p .demands;
             facts = record {
-              sound = request-sound req (held .fine);
-              many = sym (held .many);
-              rows = held .rows;
-              masked = lo .masks wo;
+              planned = record { stands = stands-of req p held; masked = lo .masks wo };
               whole = whole-is (request req .network) tab d e wd;
               lined = lines-are (request req .network) tab d e;
             };

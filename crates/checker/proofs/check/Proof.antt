@@ -49,7 +49,7 @@ is-fine-requires : tie.Need-is-fine-requires Inv-loop μ-loop
 is-fine-requires c κs = search needs
 
 returns : tie.Need-returns Inv-loop μ-loop
-returns c = λ q assigned demands f. rows-found _ _ _ _ _ _ _ _ (c .before .before .before .before .before .before .before .before .loop .inv .1) _ (c .before .before .before .before .before .long .ensures) (c .before .before .check-circuit .result) (c .before .before .check-circuit .ensures) _ (c .before .is-fine .ensures) _ (c .before .before .before .before .before .before .before .loop-test .taken) (c .if1 .taken) ∙ faults-are q assigned _ _ demands _ _ _ _ _ _ f
+returns c = λ q assigned f. rows-found _ _ _ _ _ _ _ _ (c .before .before .before .before .before .before .before .before .loop .inv .1) _ (c .before .before .before .before .before .long .ensures) (c .before .before .check-circuit .result) (c .before .before .check-circuit .ensures) _ (c .before .is-fine .ensures) _ (c .before .before .before .before .before .before .before .loop-test .taken) (c .if1 .taken) ∙ faults-are q assigned _ _ _ _ _ _ _ _ f
 
 add-c : tie.Need-add-c Inv-loop μ-loop
 add-c c = omega arith
@@ -61,7 +61,7 @@ loop-again : tie.Need-loop-again Inv-loop μ-loop
 loop-again c = (omega arith, rows-more _ _ _ _ _ _ _ _ (c .before .before .before .before .before .before .before .before .loop .inv .1) _ (c .before .before .before .before .before .long .ensures) (c .before .before .check-circuit .result) (c .before .before .check-circuit .ensures) _ (c .before .is-fine .ensures) (c .if1 .left))
 
 returns-2 : tie.Need-returns-2 Inv-loop μ-loop
-returns-2 c = λ q assigned demands f. rows-all _ _ _ _ _ _ _ _ (c .before .loop .c) (omega arith) (c .before .loop .inv .1) ∙ faults-are q assigned _ _ demands _ _ _ _ _ _ f
+returns-2 c = λ q assigned f. rows-all _ _ _ _ _ _ _ _ (c .before .loop .c) (omega arith) (c .before .loop .inv .1) ∙ faults-are q assigned _ _ _ _ _ _ _ _ f
 
 pub check-spec : {M : Type 1} → statement M
 check-spec =
