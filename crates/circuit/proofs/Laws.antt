@@ -1,5 +1,5 @@
 -- Laws of what each test on a circuit record returns, with just the facts that it uses, as `search` finds them. Assumes nothing.
-use Prim.Native.Nat.{ℕ, zero, suc, _+_, _*_, _-_, _≤_, _<_}
+use Prim.Native.Nat.{ℕ, zero, suc, _+_, _-_, _≤_, _<_}
 use mathlib.Core.Path.{_≡_, refl, ap, ap₂, _∙_}
 use mathlib.Core.Bool.{Bool, true, false, not}
 use mathlib.Core.List.{List}
@@ -9,7 +9,7 @@ use lib.Dec.{eqb, leb}
 use borrow.Author.Tests.{lt-ltb, le-ltb, eq-eqb, ne-eqb}
 use Rattle.model.specs.Tests.{neg, least}
 use Rattle.model.specs.Bytes.{lengthAt}
-use Rattle.model.specs.Reading.{andThen, have, cycleAt, demandAt, hopsAt, hopAt, badHop, gap, brokenAt, circuitHead, circuitBody, circuitVerdict}
+use Rattle.model.specs.Reading.{fromPlace, toPlace, pathPlace, andThen, have, cycleAt, demandAt, hopsAt, hopAt, badHop, gap, brokenAt, circuitHead, circuitBody, circuitVerdict}
 use Rattle.model.specs.declared.Fault.the-variants.{Value, Path}
 use Rattle.model.specs.declared.Verdict.{Verdict}
 use Rattle.model.specs.declared.Verdict.the-variants.{Fine, Faulty}
@@ -20,10 +20,10 @@ use Rattle.circuit.specs.Numbers.{sameHop}
 -- ---- the path of the circuit at p
 
 module _ (s : List ℕ) (p : ℕ) where
-  pub hop-bad : (buffers j x : ℕ) → Word s (p + 8 + 2 * j) x → leb buffers x ≡ badHop s p buffers j
+  pub hop-bad : (buffers j x : ℕ) → Word s (pathPlace p j) x → leb buffers x ≡ badHop s p buffers j
   hop-bad buffers j x w = rw (← w .is)
 
-  pub hop-same : (j i x y : ℕ) → Word s (p + 8 + 2 * i) x → Word s (p + 8 + 2 * j) y → eqb x y ≡ sameHop s p j i
+  pub hop-same : (j i x y : ℕ) → Word s (pathPlace p i) x → Word s (pathPlace p j) y → eqb x y ≡ sameHop s p j i
   hop-same j i x y v w = rw (← v .is, ← w .is)
 
   pub no-gap : (j : ℕ) → j ≡ 0 → false ≡ gap s p j
@@ -35,8 +35,8 @@ module _ (s : List ℕ) (p : ℕ) where
   neg-not true = refl
   neg-not false = refl
 
-  pub gap-here : (j x y to from : ℕ) → (j ≡ 0 → ⊥) → Word s (p + 8 + 2 * (j - 1)) x → Word s (p + 8 + 2 * j) y → Byte s (9 + 2 * x) to
-      → Byte s (8 + 2 * y) from → not (eqb to from) ≡ gap s p j
+  pub gap-here : (j x y to from : ℕ) → (j ≡ 0 → ⊥) → Word s (pathPlace p (j - 1)) x → Word s (pathPlace p j) y → Byte s (toPlace x) to
+      → Byte s (fromPlace y) from → not (eqb to from) ≡ gap s p j
   unfolding gap
   gap-here zero x y to from ne v w t f = absurd (ne refl)
   gap-here (suc i) x y to from ne v w t f =

@@ -1,5 +1,5 @@
 -- Laws that the proofs of this crate cite by `search`: each has the facts that are known where it is used. Assumes nothing.
-use Prim.Native.Nat.{ℕ, _+_, _*_, _≤_, _<_}
+use Prim.Native.Nat.{ℕ, _+_, _≤_, _<_}
 use mathlib.Core.Path.{_≡_, refl, sym}
 use mathlib.Core.Bool.{Bool, true, false, not}
 use mathlib.Core.List.{List}
@@ -9,7 +9,7 @@ use lib.Dec.{eqb}
 use Rattle.model.specs.Sizes.{cycleMost, linesMost, local, lineSize, headSize, lineKind, endKind}
 use Rattle.model.specs.Tests.{_and_, neg}
 use Rattle.model.specs.Network.{Network}
-use Rattle.model.specs.Reading.{judge, have, onward, endStep, stepAt, request, badIn, badOut, lineRows, lineVerdict, tableStep}
+use Rattle.model.specs.Reading.{fromPlace, toPlace, judge, have, onward, endStep, stepAt, request, badIn, badOut, lineRows, lineVerdict, tableStep}
 use Rattle.model.specs.declared.Fault.the-variants.{Cut, Kind, Line as LineFault}
 use Rattle.model.specs.declared.Verdict.{Verdict}
 use Rattle.model.specs.declared.Verdict.the-variants.{Fine, Faulty}
@@ -36,7 +36,7 @@ module _ (req : List ℕ) (router b : ℕ) where
     unfolding badIn neg _and_
     in-unknown h = rw (ne-eqb b local far, buffers-are req, ← w .is, le-ltb b buffers h) refl
 
-    pub in-here : b < buffers → (end : ℕ) → Byte req (9 + 2 * b) end → not (eqb end router) ≡ badIn (request req .network) router b
+    pub in-here : b < buffers → (end : ℕ) → Byte req (toPlace b) end → not (eqb end router) ≡ badIn (request req .network) router b
     unfolding badIn neg _and_
     in-here h end e =
         rw (ne-eqb b local far, buffers-are req, ← w .is, lt-ltb b buffers h, to-is req b (omega (arith, w .is)), ← e .is) (not-neg (eqb end router))
@@ -46,7 +46,7 @@ module _ (req : List ℕ) (router b : ℕ) where
     unfolding badOut neg _and_
     out-unknown h = rw (buffers-are req, ← w .is, le-ltb b buffers h) refl
 
-    pub out-here : b < buffers → (end : ℕ) → Byte req (8 + 2 * b) end → not (eqb end router) ≡ badOut (request req .network) router b
+    pub out-here : b < buffers → (end : ℕ) → Byte req (fromPlace b) end → not (eqb end router) ≡ badOut (request req .network) router b
     unfolding badOut neg _and_
     out-here h end e = rw (buffers-are req, ← w .is, lt-ltb b buffers h, from-is req b (omega (arith, w .is)), ← e .is) (not-neg (eqb end router))
 

@@ -1,11 +1,12 @@
 -- The lines that the writers lay in, hop by hop and offset by offset. Assumes nothing.
-use Prim.Native.Nat.{ℕ, _+_, _*_, _-_, _%_, _^_, _≤_}
+use Prim.Native.Nat.{ℕ, _+_, _-_, _%_, _^_, _≤_}
 use mathlib.Core.Path.{_≡_, ap, _∙_}
 use mathlib.Core.List.{List, [], _++_, map}
 use native.Mathlib.Omega.{arith}
 use lib.ListN.{length, getD}
 use Rattle.model.specs.Sizes.{headSize, lineSize}
 use Rattle.model.specs.Tests.{joined}
+use Rattle.model.specs.Reading.{fromPlace}
 use Rattle.records.specs.Fields.{Byte}
 use Rattle.mask.specs.Bits.{offsets, Lowest}
 use Rattle.mask.proofs.Laws.{offsets-zero}
@@ -20,7 +21,7 @@ module _ (req whats afters : List ℕ) (first hops cycle : ℕ) where
     abbrev to : ℕ
     to = getD whats (hopPlace first j) 0
 
-    pub hop-laid : {out₀ out : List ℕ} {at router inp : ℕ} → Byte req (8 + 2 * to) router → inp ≡ inpAt whats first j
+    pub hop-laid : {out₀ out : List ℕ} {at router inp : ℕ} → Byte req (fromPlace to) router → inp ≡ inpAt whats first j
         → out ≡ pasted out₀ at (lineRecord router cycle ((a + getD afters (hopPlace first j) 0) % cycle) inp to)
         → Laid out₀ at (hopBytes req whats afters first cycle a j) out (at + (headSize + lineSize))
     unfolding hopBytes

@@ -6,11 +6,11 @@ use native.Mathlib.Omega.{arith}
 use lib.ListN.{length, getD, length-append}
 use Rattle.model.specs.Sizes.{headSize, wordEnd, lineKind, endKind, circuitsMost}
 use Rattle.model.specs.Tests.{upTo, joined}
-use Rattle.model.specs.Bytes.{byteAt, recordOf}
+use Rattle.model.specs.Bytes.{recordOf}
 use Rattle.model.specs.Network.{Request, Circuit, circuitOf, fromRouter, hops, hop, inport, after, send}
 use Rattle.model.specs.Holding.{offsetsOf}
 use Rattle.model.specs.Lines.{Line, series, offsetOf, lineFor, linesFor}
-use Rattle.model.specs.Reading.{buffersOf}
+use Rattle.model.specs.Reading.{fromOf, buffersOf}
 use Rattle.model.specs.Jobs.{lineBody, tableBytes}
 use Rattle.model.proofs.Sound.{SoundPath, SoundRequest, hop-small}
 use Rattle.model.proofs.Readers.{from-is, buffers-are}
@@ -71,7 +71,7 @@ module _ (req : List ℕ) (q : Request) (assigned : List (List ℕ)) (n : ℕ) (
     inport-is zero k = refl
     inport-is (suc j) k = buffer-is j (omega arith)
 
-    router-is : (j : ℕ) → j < hops C → byteAt req (8 + 2 * hop C j) ≡ fromRouter (q .network) (hop C j)
+    router-is : (j : ℕ) → j < hops C → fromOf req (hop C j) ≡ fromRouter (q .network) (hop C j)
     router-is j k =
         let low : hop C j < buffersOf req = omega (arith, path .known j k, ap (λ r. length (r .network .links)) (s .says), buffers-are req) in
         sym (from-is req (hop C j) low) ∙ ap (λ r. fromRouter (r .network) (hop C j)) (s .says)
@@ -84,7 +84,7 @@ module _ (req : List ℕ) (q : Request) (assigned : List (List ℕ)) (n : ℕ) (
         let out : getD whats (hopPlace (c * usesMost) j) 0 ≡ hop C j = ap (λ i. getD whats i 0) e ∙ buffer-is j k in
         let late : getD afters (hopPlace (c * usesMost) j) 0 ≡ after (q .network) C j = ap (λ i. getD afters i 0) e ∙ after-is j k in
         let cycle = s .planned .stands .rows .cycle c h in
-        let router = ap (λ b. byteAt req (8 + 2 * b)) out ∙ router-is j k in
+        let router = ap (fromOf req) out ∙ router-is j k in
         (λ i. lineRecord (router i) (cycle i) ((a + late i) % cycle i) (inport-is j k i) (out i))
 
     -- the lines of an offset, and of all offsets

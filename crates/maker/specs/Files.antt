@@ -5,10 +5,10 @@ use mathlib.Core.List.{List, map}
 use lib.ListN.{length, getD}
 use Rattle.model.specs.Sizes.{headSize, lineSize, circuitsMost, cycleMost, wordEnd, local, lineKind}
 use Rattle.model.specs.Tests.{upTo, joined, sum}
-use Rattle.model.specs.Bytes.{byteAt, recordOf}
+use Rattle.model.specs.Bytes.{recordOf}
 use Rattle.model.specs.Network.{Request}
 use Rattle.model.specs.Lines.{linesFor}
-use Rattle.model.specs.Reading.{request}
+use Rattle.model.specs.Reading.{fromOf, request}
 use Rattle.model.specs.Jobs.{lineBody, tableBytes}
 use Rattle.mask.specs.Bits.{offsets}
 use Rattle.plans.specs.Rows.{usesMost, placeOf, RowsAndMasks}
@@ -32,7 +32,7 @@ unfoldable pub hopBytes : (req whats afters : List ℕ) (first cycle a j : ℕ) 
 unfolding inpAt
 hopBytes req whats afters first cycle a j =
     let out = getD whats (hopPlace first j) 0 in
-    lineRecord (byteAt req (8 + 2 * out)) cycle ((a + getD afters (hopPlace first j) 0) % cycle) (inpAt whats first j) out
+    lineRecord (fromOf req out) cycle ((a + getD afters (hopPlace first j) 0) % cycle) (inpAt whats first j) out
 
 -- the lines of one offset, and those of the offsets of a mask
 unfoldable pub offsetBytes : (req whats afters : List ℕ) (first hops cycle a : ℕ) → List ℕ

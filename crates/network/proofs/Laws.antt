@@ -1,5 +1,5 @@
 -- Laws of what each test on the network record returns, with just the facts that it uses, as `search` finds them. Assumes nothing.
-use Prim.Native.Nat.{ℕ, _+_, _*_, _≤_, _<_}
+use Prim.Native.Nat.{ℕ, _≤_, _<_}
 use mathlib.Core.Path.{_≡_, _∙_}
 use mathlib.Core.Bool.{Bool, true, false, not}
 use mathlib.Core.List.{List}
@@ -7,7 +7,7 @@ use lib.ListN.{length}
 use lib.Dec.{eqb, ltb}
 use borrow.Author.Tests.{lt-ltb, le-ltb, le-leb, lt-leb, eq-eqb, ne-eqb}
 use Rattle.model.specs.Tests.{_and_, least}
-use Rattle.model.specs.Reading.{samePair, badLink, networkHead, networkVerdict}
+use Rattle.model.specs.Reading.{fromPlace, toPlace, samePair, badLink, networkHead, networkVerdict}
 use Rattle.model.specs.declared.Fault.the-variants.{Value}
 use Rattle.model.specs.declared.Verdict.{Verdict}
 use Rattle.model.specs.declared.Verdict.the-variants.{Fine, Faulty}
@@ -16,21 +16,21 @@ use Rattle.records.proofs.Laws.{stays, goes-on}
 
 -- ---- the links of the network
 
-module _ (s : List ℕ) (b a x y : ℕ) (from-a : Byte s (8 + 2 * a) x) (from-b : Byte s (8 + 2 * b) y) where
+module _ (s : List ℕ) (b a x y : ℕ) (from-a : Byte s (fromPlace a) x) (from-b : Byte s (fromPlace b) y) where
   pub pair-differs : (x ≡ y → ⊥) → false ≡ samePair s b a
   unfolding samePair _and_
   pair-differs ne = simp (← from-a .is, ← from-b .is, ne-eqb x y ne)
 
-  pub pair-same : (v w : ℕ) → x ≡ y → Byte s (9 + 2 * a) v → Byte s (9 + 2 * b) w → eqb v w ≡ samePair s b a
+  pub pair-same : (v w : ℕ) → x ≡ y → Byte s (toPlace a) v → Byte s (toPlace b) w → eqb v w ≡ samePair s b a
   unfolding samePair _and_
   pair-same v w e to-a to-b = simp (← from-a .is, ← from-b .is, ← to-a .is, ← to-b .is, eq-eqb x y e)
 
-module _ (s : List ℕ) (routers b from : ℕ) (f : Byte s (8 + 2 * b) from) where
+module _ (s : List ℕ) (routers b from : ℕ) (f : Byte s (fromPlace b) from) where
   pub bad-from : routers ≤ from → true ≡ badLink s routers b
   unfolding badLink
   bad-from h = simp (← f .is, le-leb routers from h)
 
-  module _ (to : ℕ) (h : from < routers) (t : Byte s (9 + 2 * b) to) where
+  module _ (to : ℕ) (h : from < routers) (t : Byte s (toPlace b) to) where
     pub bad-to : routers ≤ to → true ≡ badLink s routers b
     unfolding badLink
     bad-to k = simp (← f .is, ← t .is, lt-leb routers from h, le-leb routers to k)

@@ -21,14 +21,8 @@ mul-to c = search needs
 shared-slice-read-to : tie.Need-shared-slice-read-to
 shared-slice-read-to c = search needs
 
-mul-byte : tie.Need-mul-byte
-mul-byte c = omega (arith, c .before .before .before .before .before .pre .0 .what (c .before .before .before .before .before .args .j) (omega arith))
-
-add-byte : tie.Need-add-byte
-add-byte c = omega (arith, c .before .before .before .before .before .pre .0 .what (c .before .before .before .before .before .args .j) (omega arith))
-
-byte-requires : tie.Need-byte-requires
-byte-requires c κs = search needs
+from-of-requires : tie.Need-from-of-requires
+from-of-requires c κs = c .before .before .before .before .before .pre .0 .what (c .before .before .before .before .before .args .j) (omega arith)
 
 cast-router : tie.Need-cast-router
 cast-router c = search needs
@@ -69,7 +63,7 @@ same-length c = search needs
 returns : tie.Need-returns
 returns c =
     hop-laid _ _ _ _ (c .before .before .before .before .before .before .before .before .before .before .before .before .args .hops) _ _ _
-    (c .before .before .before .before .before .before .byte .ensures)
+    (c .before .before .before .before .before .before .from-of .ensures)
     (c .before .before .before .before .inport .ensures)
     (c .before .before .put-line .ensures)
 
@@ -81,9 +75,7 @@ put-hop-spec =
     add-u-2
     mul-to
     shared-slice-read-to
-    mul-byte
-    add-byte
-    byte-requires
+    from-of-requires
     cast-router
     mul-slot
     shared-slice-read-slot
