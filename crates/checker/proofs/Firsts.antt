@@ -3,20 +3,20 @@
 use Prim.Native.Nat.{ℕ, _+_, _-_, _^_, _≤_, _<_}
 use mathlib.Core.Path.{_≡_, refl, sym, ap, _∙_}
 use mathlib.Core.Bool.{Bool, true, false, not}
-use mathlib.Core.List.{List}
+use mathlib.Core.List.{List, [], _∷_, List·Memᴰ·head, List·Memᴰ·tail}
 use mathlib.Core.Option.{Option, none, some}
 use native.Mathlib.Decide.{decLt}
 use native.Mathlib.Omega.{arith}
 use borrow.Author.Tests.{not-true, not-false}
 use lib.ListN.{getD}
 use lib.Pow.{pow-pos}
-use Rattle.model.specs.Tests.{_else_, first}
+use Rattle.model.specs.Tests.{_else_, _∈_, first}
 use Rattle.model.specs.declared.Answer.{Answer}
-use Rattle.model.proofs.Tests.{eq→T, first-none, first-at}
-use Rattle.mask.specs.Bits.{offsets, Lowest}
-use Rattle.mask.proofs.Laws.{offsets-zero}
+use Rattle.model.proofs.Tests.{T→eq, eq→T, first-none, first-at}
+use Rattle.mask.specs.Bits.{bit, offsets, Lowest}
+use Rattle.mask.proofs.Laws.{offsets-zero, offsets-in}
 use Rattle.plans.specs.Rows.{placeOf}
-use Rattle.series.specs.Judging.{judgedOf, judgedAnswer}
+use Rattle.series.specs.Judging.{judgedOf, judgedAnswer, AllServed}
 use Rattle.checker.specs.Checks.{checkedAnswer, fine, firstIn, hopFault, offsetFault, circuitFault, rowFault}
 use Rattle.series.specs.declared.Judged.{Judged}
 use Rattle.checker.specs.declared.Checked.{Checked}
@@ -127,6 +127,35 @@ module _ (whats afters t : List ℕ) (lines cycle hops mask c : ℕ) where
 
 pub left-less : (left i left′ : ℕ) → Lowest left i → left′ ≡ left - 2 ^ i → left′ < left
 left-less left i left′ low e = omega (arith, low .least, pow-pos i)
+
+-- ---- all offsets of a mask at once, hop by hop
+
+module _ (whats afters t : List ℕ) (lines cycle mask c : ℕ) where
+  pub record Served (j : ℕ) : Type 0 where
+    pub none-at : (k : ℕ) → k < j → (a : ℕ) → bit mask a ≡ true → hopFault whats afters t lines cycle c a k ≡ none
+
+  pub served-none : Served 0
+  served-none = record { none-at = λ k h. absurd (omega arith) }
+
+  pub served-more : (j : ℕ) → Served j
+      → AllServed t lines (getD whats (placeOf c j) 0) cycle (getD afters (placeOf c (j + 1)) 0) (getD whats (placeOf c (j + 1)) 0) mask → Served (j + 1)
+  unfolding hopFault
+  served-more j s all = record { none-at = λ k h a w. pick k h a w (decLt k j) }
+    where
+      pick : (k : ℕ) → k < j + 1 → (a : ℕ) → bit mask a ≡ true → Dec (k < j) → hopFault whats afters t lines cycle c a k ≡ none
+      pick k h a w (yes l) = s .none-at k l a w
+      pick k h a w (no l) = let e : k ≡ j = omega arith in rw e (ap (judgedAnswer c a j) (all .each a w))
+
+  in-none : (l : List ℕ) (f : ℕ → Option Answer) → ((a : ℕ) → a ∈ l → f a ≡ none) → firstIn l f ≡ none
+  unfolding firstIn _else_
+  in-none [] f h = refl
+  in-none (x ∷ l) f h = rw (h x (List·Memᴰ·head refl)) (in-none l f (λ a i. h a (List·Memᴰ·tail i)))
+
+  pub served-all : (hops j : ℕ) → hops ≤ j → Served j → circuitFault whats afters t lines cycle hops mask c ≡ none
+  unfolding circuitFault offsetFault
+  served-all hops j h s =
+      in-none (offsets mask) (offsetFault whats afters t lines cycle hops c)
+      (λ a i. first-none hops (hopFault whats afters t lines cycle c a) .1 (λ k l. s .none-at k (omega arith) a (T→eq _ (offsets-in mask a .0 i .1))))
 
 -- ---- circuits
 

@@ -1,5 +1,7 @@
 // The table check behind reading: the series by circuit, offset and hop, to the first that has a fault. Assumes nothing.
 ghost use mathlib.Core.Path.{_≡_};
+ghost use mathlib.Core.Bool.{true};
+ghost use mathlib.Core.Option.{none};
 ghost use Prim.Native.Nat.{ℕ, _<_};
 ghost use mathlib.Core.List.{List};
 ghost use Rattle.model.specs.Sizes.{cycleMost};
@@ -123,6 +125,35 @@ fn check_offset(
     Checked::Fine
 }
 
+// Whether the series of all offsets of circuit c are served at every hop. Where it does not say yes, `check_offset` tells
+// what is wrong, if anything is.
+fn served(
+    whats: &[usize],
+    afters: &[usize],
+    t: &[u8],
+    lines: usize,
+    head: &[u16],
+    next: &[u16],
+    cycle: usize,
+    hops: usize,
+    mask: u32,
+    c: usize,
+) -> bool
+    requires { ⌜ Linked (now t) lines (now head) (now next) ⌝ }
+    requires { ⌜ Row (now whats) (now afters) cycle hops c ⌝ }
+    ensures { λ r. ⌜ (r ≡ true → circuitFault (now (whats .entry)) (now (afters .entry)) (now (t .entry)) lines cycle hops mask c ≡ none) ⌝ }
+{
+    for k in 0..hops {
+        let port = whats[c * USES_MOST + k];
+        let out = whats[c * USES_MOST + (k + 1)];
+        let after = afters[c * USES_MOST + (k + 1)];
+        if !series::all_served(t, lines, head, next, port, cycle, after, out, mask) {
+            return false;
+        }
+    }
+    true
+}
+
 // The offsets of circuit c, rising.
 fn check_circuit(
     whats: &[usize],
@@ -140,6 +171,9 @@ fn check_circuit(
     requires { ⌜ Row (now whats) (now afters) cycle hops c ⌝ }
     ensures { λ r. ⌜ checkedAnswer r ≡ circuitFault (now (whats .entry)) (now (afters .entry)) (now (t .entry)) lines cycle hops mask c ⌝ }
 {
+    if served(whats, afters, t, lines, head, next, cycle, hops, mask, c) {
+        return Checked::Fine;
+    }
     let mut left = mask;
     while left != 0 {
         let i = mask::lowest(left);

@@ -19,9 +19,10 @@ use Rattle.divisor.specs.Common.{Cycle}
 use Rattle.mask.specs.Bits.{bit, offsets}
 use Rattle.mask.proofs.Laws.{offsets-in, offsets-below}
 use Rattle.plans.specs.Rows.{usesMost}
-use Rattle.pairs.specs.Differences.{ahead, useAt, usesAt}
+use Rattle.cyclic.specs.Ahead.{ahead}
+use Rattle.pairs.specs.Differences.{useAt, usesAt}
 use Rattle.pairs.specs.Bookings.{Known, bookingAt}
-use Rattle.pairs.proofs.Ahead.{ahead-low, ahead-back}
+use Rattle.cyclic.proofs.Ahead.{ahead-low, ahead-back}
 use Rattle.pairs.proofs.Marking.{any-zero, any-more}
 use Rattle.clash.specs.Held.{heldBy, HoldsIs, BothIs}
 

@@ -9,7 +9,7 @@ use Rattle.model.specs.Tests.{_and_, any}
 use Rattle.model.specs.Network.{Use}
 use Rattle.model.specs.Holding.{holds?, both?}
 use Rattle.mask.specs.Bits.{bit}
-use Rattle.pairs.specs.Differences.{ahead}
+use Rattle.cyclic.specs.Ahead.{ahead}
 use Rattle.pairs.specs.Bookings.{bookingAt}
 
 -- one of the uses l is a use of w whose offset in slot t is in the mask m

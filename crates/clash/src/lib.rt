@@ -49,7 +49,7 @@ fn holds(
         if whats[first + k] != w {
             continue;
         }
-        let a = pairs::difference(d, t, afters[first + k]);
+        let a = cyclic::difference(d, t, afters[first + k]);
         if mask::has(m, a as u32) {
             return true;
         }

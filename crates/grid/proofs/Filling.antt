@@ -13,7 +13,8 @@ use Rattle.model.specs.Holding.{offsetsClash?}
 use Rattle.divisor.specs.Common.{Common}
 use Rattle.mask.specs.Bits.{bit, Marked}
 use Rattle.mask.proofs.Laws.{bit-none, marked-new}
-use Rattle.pairs.specs.Differences.{ahead, usesIn, Bad}
+use Rattle.cyclic.specs.Ahead.{ahead}
+use Rattle.pairs.specs.Differences.{usesIn, Bad}
 use Rattle.pairs.specs.Bookings.{Lent, bookingAt}
 use Rattle.pairs.proofs.Booked.{pair-each, clash-stands}
 use Rattle.grid.specs.Table.{Barred, PairFilled, pairAt, placeIn, CircuitFilled, FilledFor}

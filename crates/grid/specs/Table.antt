@@ -8,7 +8,7 @@ use Rattle.model.specs.Network.{Request, circuitOf}
 use Rattle.model.specs.Holding.{offsetsClash?}
 use Rattle.model.specs.Search.{clashOf}
 use Rattle.mask.specs.Bits.{bit}
-use Rattle.pairs.specs.Differences.{ahead}
+use Rattle.cyclic.specs.Ahead.{ahead}
 use Rattle.plans.specs.Rows.{RowsOf}
 use Rattle.pairs.specs.Bookings.{bookingAt}
 

@@ -17,7 +17,7 @@ fn barred(bad: u32, g: usize, d: usize, b: usize) -> u32
 {
     let mut acc = 0u32;
     for a in 0..d {
-        let x = pairs::difference(g, a, b);
+        let x = cyclic::difference(g, a, b);
         if !mask::has(bad, x as u32) {
             continue;
         }

@@ -14,7 +14,8 @@ use Rattle.divisor.specs.Common.{Common}
 use Rattle.plans.specs.Rows.{usesMost, noUse, RowsOf, RowsAndMasks}
 use Rattle.plans.proofs.Uses.{uses-few}
 use Rattle.mask.specs.Bits.{bit, offsets}
-use Rattle.pairs.specs.Differences.{ahead, useAt, usesAt, usesIn, Placed, Bad, hitsAny}
+use Rattle.cyclic.specs.Ahead.{ahead}
+use Rattle.pairs.specs.Differences.{useAt, usesAt, usesIn, Placed, Bad, hitsAny}
 use Rattle.pairs.specs.Bookings.{Long, Known, Lent, bookingAt}
 use Rattle.pairs.proofs.Hitting.{bad-clash, hits-clashes, no-hits}
 

@@ -11,8 +11,10 @@ use Rattle.model.specs.Holding.{Booking, offsetsClash?, clashes?}
 use Rattle.model.proofs.Divisor.{gcd-pos}
 use Rattle.mask.specs.Bits.{bit, offsets, Lowest}
 use Rattle.mask.proofs.Laws.{bit-none, offsets-zero}
-use Rattle.pairs.specs.Differences.{ahead, meetsAny, anyMeets, Bad, oneHits, hitsAny}
-use Rattle.pairs.proofs.Ahead.{ahead-low, clash-ahead}
+use Rattle.cyclic.specs.Ahead.{ahead}
+use Rattle.pairs.specs.Differences.{meetsAny, anyMeets, Bad, oneHits, hitsAny}
+use Rattle.cyclic.proofs.Ahead.{ahead-low}
+use Rattle.pairs.proofs.Ahead.{clash-ahead}
 
 -- ---- some offset of a mask passes
 

@@ -12,8 +12,9 @@ use Rattle.model.specs.Network.{Use}
 use Rattle.model.specs.Holding.{meet?}
 use Rattle.mask.specs.Bits.{bit, Marked}
 use Rattle.mask.proofs.Laws.{bit-none}
-use Rattle.pairs.specs.Differences.{ahead, useAt, usesAt, Marks, MarksUse, meetsAny, anyMeets, Bad}
-use Rattle.pairs.proofs.Ahead.{ahead-only}
+use Rattle.cyclic.specs.Ahead.{ahead}
+use Rattle.pairs.specs.Differences.{useAt, usesAt, Marks, MarksUse, meetsAny, anyMeets, Bad}
+use Rattle.cyclic.proofs.Ahead.{ahead-only}
 
 -- ---- one element more
 

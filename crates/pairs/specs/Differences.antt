@@ -1,5 +1,5 @@
 -- How differences of offsets tell clashes. Assumes nothing: these are definitions.
-use Prim.Native.Nat.{ℕ, _+_, _*_, _-_, _%_, _≤_, _<_}
+use Prim.Native.Nat.{ℕ, _+_, _*_, _-_, _≤_, _<_}
 use mathlib.Core.Path.{_≡_}
 use mathlib.Core.Bool.{Bool, _||_}
 use mathlib.Core.List.{List}
@@ -9,10 +9,7 @@ use Rattle.model.specs.Network.{Use}
 use Rattle.model.specs.Holding.{meet?}
 use Rattle.plans.specs.Rows.{usesMost}
 use Rattle.mask.specs.Bits.{bit, offsets}
-
--- how far a is ahead of b, modulo g
-abbrev pub ahead : ℕ → ℕ → ℕ → ℕ
-ahead g a b = (a % g + (g - b % g)) % g
+use Rattle.cyclic.specs.Ahead.{ahead}
 
 -- ---- the uses in two rows
 

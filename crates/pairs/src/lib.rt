@@ -4,20 +4,11 @@ ghost use Prim.Native.Nat.{_<_};
 ghost use lib.ListN.{length, getD};
 ghost use Rattle.model.specs.Holding.{clashes?};
 ghost use Rattle.divisor.specs.Common.{Cycle};
-ghost use Rattle.pairs.specs.Differences.{ahead, usesIn, InRows, Placed, MarksUse, Bad, oneHits, hitsAny};
+ghost use Rattle.pairs.specs.Differences.{usesIn, InRows, Placed, MarksUse, Bad, oneHits, hitsAny};
 ghost use Rattle.pairs.specs.Bookings.{Long, Known, bookingAt};
 use model::USES_MOST;
 
 // ---- Differences of offsets.
-
-// How far a is ahead of b, modulo g.
-pub fn difference(g: usize, a: usize, b: usize) -> usize
-    requires { ⌜ Cycle g ⌝ }
-    ensures is { λ r. ⌜ r ≡ ahead g a b ⌝ }
-    ensures low { λ r. ⌜ r < g ⌝ }
-{
-    (a % g + (g - b % g)) % g
-}
 
 // Marks the differences at which a use of `what`, `after` slots behind its offset, meets one of the
 // count uses from place first on.
@@ -40,7 +31,7 @@ fn mark_use(
         if whats[first + k] != what {
             continue;
         }
-        let d = difference(g, afters[first + k], after);
+        let d = cyclic::difference(g, afters[first + k], after);
         acc = mask::mark(acc, d as u32);
     }
     acc
@@ -81,7 +72,7 @@ fn one_hits(bad: u32, g: usize, a: usize, m: u32) -> bool
     let mut rest = m;
     while rest != 0 {
         let b = mask::lowest(rest);
-        let d = difference(g, a, b as usize);
+        let d = cyclic::difference(g, a, b as usize);
         if mask::has(bad, d as u32) {
             return true;
         }

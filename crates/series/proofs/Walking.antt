@@ -128,7 +128,7 @@ unfolding _and_
 and-true true = refl
 and-true false = refl
 
-and-false : (a b : Bool) → b ≡ false → (a and b) ≡ false
+pub and-false : (a b : Bool) → b ≡ false → (a and b) ≡ false
 unfolding _and_
 and-false true b e = e
 and-false false b e = refl
@@ -148,7 +148,7 @@ module _ (t : List ℕ) (lines port cycle start : ℕ) where
   abbrev again : ℕ → Bool
   again = againAt t lines port cycle start
 
-  meet-has : (j : ℕ) → has t port j ≡ false → meet j ≡ false
+  pub meet-has : (j : ℕ) → has t port j ≡ false → meet j ≡ false
   unfolding meetsAt _and_
   meet-has j e = rw e refl
 

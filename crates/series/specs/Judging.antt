@@ -1,6 +1,7 @@
 -- The lines that meet a series, over the bytes of a table file: which they are, and what is told of the series. Assumes nothing: these are definitions.
-use Prim.Native.Nat.{ℕ, _%_, _<_}
-use mathlib.Core.Bool.{Bool, cond}
+use Prim.Native.Nat.{ℕ, _+_, _%_, _<_}
+use mathlib.Core.Path.{_≡_}
+use mathlib.Core.Bool.{Bool, true, cond}
 use mathlib.Core.List.{List}
 use mathlib.Core.Option.{Option, none, some}
 use lib.Dec.{ltb, eqb}
@@ -10,6 +11,7 @@ use Rattle.model.specs.Tests.{_and_, neg, least}
 use Rattle.model.specs.declared.Answer.{Answer}
 use Rattle.model.specs.declared.Answer.the-variants.{Unserved as UnservedAnswer, Partly as PartlyAnswer, Twice as TwiceAnswer, Astray as AstrayAnswer}
 use Rattle.divisor.specs.Common.{Cycle}
+use Rattle.mask.specs.Bits.{bit}
 use Rattle.chains.specs.Chains.{lineIn, has}
 use Rattle.series.specs.declared.Met.{Met}
 use Rattle.series.specs.declared.Judged.{Judged}
@@ -81,3 +83,7 @@ judgedAnswer c a j Unserved = some (UnservedAnswer c a j)
 judgedAnswer c a j (Partly m) = some (PartlyAnswer c a j m)
 judgedAnswer c a j (Twice m) = some (TwiceAnswer c a j m)
 judgedAnswer c a j (Astray m) = some (AstrayAnswer c a j m)
+
+-- no series of the offsets of a mask has a fault, where it comes to the port so long after its offset
+pub record AllServed (t : List ℕ) (lines port cycle after out mask : ℕ) : Type 0 where
+  pub each : (a : ℕ) → bit mask a ≡ true → judgedOf t lines port cycle (a + after) out ≡ Fine

@@ -1,11 +1,12 @@
 // One series of packets held against the lines of its inport: which lines meet it, and what is wrong with it. Assumes nothing.
 ghost use mathlib.Core.Path.{_≡_};
+ghost use mathlib.Core.Bool.{true};
 ghost use Prim.Native.Nat.{_%_, _<_};
 ghost use Rattle.model.specs.Sizes.{resourcesMost};
 ghost use Rattle.model.specs.Tests.{_and_};
 ghost use Rattle.divisor.specs.Common.{Cycle};
 ghost use Rattle.chains.specs.Chains.{Linked};
-ghost use Rattle.series.specs.Judging.{noted, Held, agreesOf, coversOf, metBy, judgedOf};
+ghost use Rattle.series.specs.Judging.{noted, Held, agreesOf, coversOf, metBy, judgedOf, AllServed};
 
 // Of the lines that meet a series: the first, the first that does not serve it whole, and the second.
 // The number of lines where there is none.
@@ -141,4 +142,48 @@ pub fn judge(
         return Judged::Astray(one);
     }
     Judged::Fine
+}
+
+// Whether the series of all offsets of the mask, which come to this port `after` slots behind their offsets, are served,
+// told in one walk over the lines. It says yes only where all lines of the port have the circuit's cycle for their period;
+// where it does not say yes, `judge` tells what is wrong with each series, if anything is.
+pub fn all_served(
+    t: &[u8],
+    lines: usize,
+    head: &[u16],
+    next: &[u16],
+    port: usize,
+    cycle: usize,
+    after: usize,
+    out: usize,
+    mask: u32,
+) -> bool
+    requires { ⌜ Linked (now t) lines (now head) (now next) ⌝ }
+    requires { ⌜ (port < resourcesMost) × Cycle cycle ⌝ }
+    ensures { λ r. ⌜ (r ≡ true → AllServed (now (t .entry)) lines port cycle after out mask) ⌝ }
+{
+    let mut met = 0u32;
+    let mut m = chains::wide(head[port]);
+    while m < lines {
+        let here = m;
+        m = chains::wide(next[here]);
+        let period = lined::period_of(t, here);
+        if period != cycle {
+            return false;
+        }
+        let slot = lined::slot_of(t, here);
+        let a = cyclic::difference(cycle, slot, after) as u32;
+        if !mask::has(mask, a) {
+            continue;
+        }
+        if mask::has(met, a) {
+            return false;
+        }
+        let led = lined::out_of(t, here);
+        if led != out {
+            return false;
+        }
+        met = mask::mark(met, a);
+    }
+    met == mask
 }

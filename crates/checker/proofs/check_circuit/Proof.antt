@@ -1,4 +1,5 @@
 -- `checker::check_circuit` meets its contract: the offsets that were taken off the mask have no fault. Assumes nothing.
+use mathlib.Core.Path.{sym}
 use native.Mathlib.Omega.{arith}
 use borrow.Author.Needs.{needs}
 use Rattle.checker.proofs.Firsts.{Left, left-all, left-more, left-less, left-found, left-none}
@@ -11,6 +12,12 @@ Inv-loop whats afters t lines head next cycle hops mask c left₀ left = Left wh
 abbrev μ-loop : tie.MeasureT-loop
 μ-loop whats afters t lines head next cycle hops mask c left₀ left = left
 
+served-requires : tie.Need-served-requires Inv-loop μ-loop
+served-requires c κs = search needs
+
+returns : tie.Need-returns Inv-loop μ-loop
+returns c = sym (c .before .served .ensures (c .if1 .taken))
+
 loop-holds : tie.Need-loop-holds Inv-loop μ-loop
 loop-holds c = search left-all
 
@@ -21,13 +28,13 @@ long-requires : tie.Need-long-requires Inv-loop μ-loop
 long-requires c κs = search needs
 
 check-offset-requires : tie.Need-check-offset-requires Inv-loop μ-loop
-check-offset-requires c κs = let pre = c .before .before .before .before .before .before .before .before .before .pre in (pre .0, (pre .1, omega arith))
+check-offset-requires c κs = let pre = c .before .before .before .before .before .before .before .before .before .before .before .pre in (pre .0, (pre .1, omega arith))
 
 is-fine-requires : tie.Need-is-fine-requires Inv-loop μ-loop
 is-fine-requires c κs = search needs
 
-returns : tie.Need-returns Inv-loop μ-loop
-returns c = search left-found
+returns-2 : tie.Need-returns-2 Inv-loop μ-loop
+returns-2 c = search left-found
 
 without-requires : tie.Need-without-requires Inv-loop μ-loop
 without-requires c κs = search needs
@@ -38,8 +45,8 @@ loop-less c = search left-less
 loop-again : tie.Need-loop-again Inv-loop μ-loop
 loop-again c = search left-more
 
-returns-2 : tie.Need-returns-2 Inv-loop μ-loop
-returns-2 c = search left-none
+returns-3 : tie.Need-returns-3 Inv-loop μ-loop
+returns-3 c = search left-none
 
 pub check-circuit-spec : {M : Type 1} → statement M
 check-circuit-spec =
@@ -47,13 +54,15 @@ check-circuit-spec =
     (tie.spec
     Inv-loop
     μ-loop
+    served-requires
+    returns
     loop-holds
     lowest-requires
     long-requires
     check-offset-requires
     is-fine-requires
-    returns
+    returns-2
     without-requires
     loop-less
     loop-again
-    returns-2)
+    returns-3)
