@@ -10,15 +10,16 @@ use native.Mathlib.Omega.{arith}
 use borrow.Author.Tests.{not-true, not-false}
 use lib.ListN.{getD}
 use lib.Pow.{pow-pos}
+use Rattle.model.specs.Sizes.{resourcesMost, wordEnd}
 use Rattle.model.specs.Tests.{_else_, _∈_, first}
 use Rattle.model.specs.declared.Answer.{Answer}
 use Rattle.model.proofs.Tests.{T→eq, eq→T, first-none, first-at}
 use Rattle.mask.specs.Bits.{bit, offsets, Lowest}
 use Rattle.mask.proofs.Laws.{offsets-zero, offsets-in}
-use Rattle.plans.specs.Rows.{placeOf}
 use Rattle.series.specs.Judging.{judgedOf, judgedAnswer, AllServed}
-use Rattle.checker.specs.Checks.{checkedAnswer, fine, firstIn, hopFault, offsetFault, circuitFault, rowFault}
+use Rattle.checker.specs.Checks.{checkedAnswer, fine, firstIn, hopAt, HopThere, hopFault, offsetFault, circuitFault, rowFault, Row}
 use Rattle.series.specs.declared.Judged.{Judged}
+use Rattle.checker.specs.declared.Hop.{Hop}
 use Rattle.checker.specs.declared.Checked.{Checked}
 use Rattle.checker.specs.declared.Checked.the-variants.{Fine, Unserved, Partly, Twice, Astray}
 
@@ -63,6 +64,19 @@ module _ (f : ℕ → Option Answer) where
         let x = told-some r (sym be ∙ not-true b h) in
         x .1 ∙ sym (first-at n f i (x .0) l (c .below) (sym e ∙ x .1))
 
+-- ---- hop j in the rows
+
+module _ {whats afters : List ℕ} {cycle hops c j : ℕ} (row : Row whats afters cycle hops c) (low : j < hops) where
+  pub hop-there : HopThere whats afters c j
+  hop-there = record { low = row .low; whats-long = omega (arith, row .whats-long); afters-long = omega (arith, row .afters-long) }
+
+  module _ {h : Hop} (he : h ≡ hopAt whats afters c j) where
+    pub port-small : h .port < resourcesMost
+    port-small = rw he (row .port j low)
+
+    pub after-small : h .after < wordEnd
+    after-small = rw he (row .after j low)
+
 -- ---- hops
 
 module _ (whats afters t : List ℕ) (lines cycle c a : ℕ) where
@@ -74,11 +88,11 @@ module _ (whats afters t : List ℕ) (lines cycle c a : ℕ) where
   hops-all hops j h k = clear-all _ hops j h k
 
   module _ (j : ℕ) (k : Clear (hopFault whats afters t lines cycle c a) j) (v : Judged)
-      (ve : v ≡ judgedOf t lines (getD whats (placeOf c j) 0) cycle (a + getD afters (placeOf c (j + 1)) 0) (getD whats (placeOf c (j + 1)) 0))
+      (h : Hop) (he : h ≡ hopAt whats afters c j) (ve : v ≡ judgedOf t lines (h .port) cycle (a + h .after) (h .out))
       (r : Checked) (re : checkedAnswer r ≡ judgedAnswer c a j v) (b : Bool) (be : b ≡ fine r) where
     here : checkedAnswer r ≡ hopFault whats afters t lines cycle c a j
     unfolding hopFault
-    here = re ∙ ap (judgedAnswer c a j) ve
+    here = re ∙ ap (judgedAnswer c a j) (ve ∙ ap (λ (h : Hop). judgedOf t lines (h .port) cycle (a + h .after) (h .out)) he)
 
     pub hops-more : not b ≡ false → Clear (hopFault whats afters t lines cycle c a) (j + 1)
     hops-more h = clear-more _ j k r here b be h
@@ -137,14 +151,15 @@ module _ (whats afters t : List ℕ) (lines cycle mask c : ℕ) where
   pub served-none : Served 0
   served-none = record { none-at = λ k h. absurd (omega arith) }
 
-  pub served-more : (j : ℕ) → Served j
-      → AllServed t lines (getD whats (placeOf c j) 0) cycle (getD afters (placeOf c (j + 1)) 0) (getD whats (placeOf c (j + 1)) 0) mask → Served (j + 1)
+  pub served-more : (j : ℕ) → Served j → (h : Hop) → h ≡ hopAt whats afters c j → AllServed t lines (h .port) cycle (h .after) (h .out) mask → Served (j + 1)
   unfolding hopFault
-  served-more j s all = record { none-at = λ k h a w. pick k h a w (decLt k j) }
+  served-more j s h he all = record { none-at = λ k l a w. pick k l a w (decLt k j) }
     where
       pick : (k : ℕ) → k < j + 1 → (a : ℕ) → bit mask a ≡ true → Dec (k < j) → hopFault whats afters t lines cycle c a k ≡ none
-      pick k h a w (yes l) = s .none-at k l a w
-      pick k h a w (no l) = let e : k ≡ j = omega arith in rw e (ap (judgedAnswer c a j) (all .each a w))
+      pick k l a w (yes b) = s .none-at k b a w
+      pick k l a w (no b) =
+          let e : k ≡ j = omega arith in
+          rw e (ap (λ (h : Hop). judgedAnswer c a j (judgedOf t lines (h .port) cycle (a + h .after) (h .out))) (sym he) ∙ ap (judgedAnswer c a j) (all .each a w))
 
   in-none : (l : List ℕ) (f : ℕ → Option Answer) → ((a : ℕ) → a ∈ l → f a ≡ none) → firstIn l f ≡ none
   unfolding firstIn _else_

@@ -17,6 +17,7 @@ use Rattle.divisor.specs.Common.{Cycle}
 use Rattle.mask.specs.Bits.{offsets}
 use Rattle.plans.specs.Rows.{placeOf, RowsAndMasks}
 use Rattle.series.specs.Judging.{judgedOf, judgedAnswer}
+use Rattle.checker.specs.declared.Hop.{Hop}
 use Rattle.checker.specs.declared.Checked.{Checked}
 use Rattle.checker.specs.declared.Checked.the-variants.{Fine, Unserved, Partly, Twice, Astray}
 
@@ -41,12 +42,22 @@ unfoldable pub firstIn : {A : Type 0} → List ℕ → (ℕ → Option A) → Op
 firstIn [] f = none
 firstIn (x ∷ xs) f = f x else firstIn xs f
 
+-- hop j of circuit c in the rows: where its series come to, where they go, and how long after their offsets
+abbrev pub hopAt : (whats afters : List ℕ) (c j : ℕ) → Hop
+hopAt whats afters c j = record { port = getD whats (placeOf c j) 0; out = getD whats (placeOf c (j + 1)) 0; after = getD afters (placeOf c (j + 1)) 0 }
+
+-- it is there
+pub record HopThere (whats afters : List ℕ) (c j : ℕ) : Type 0 where
+  pub low : c < circuitsMost
+  pub whats-long : placeOf c (j + 1) < length whats
+  pub afters-long : placeOf c (j + 1) < length afters
+
 module _ (whats afters t : List ℕ) (lines : ℕ) where
   -- of hop j of circuit c with offset a; of all its hops; and of all its offsets
   unfoldable pub hopFault : (cycle c a j : ℕ) → Option Answer
   hopFault cycle c a j =
-      judgedAnswer c a j
-      (judgedOf t lines (getD whats (placeOf c j) 0) cycle (a + getD afters (placeOf c (j + 1)) 0) (getD whats (placeOf c (j + 1)) 0))
+      let h = hopAt whats afters c j in
+      judgedAnswer c a j (judgedOf t lines (h .port) cycle (a + h .after) (h .out))
 
   unfoldable pub offsetFault : (cycle hops c a : ℕ) → Option Answer
   offsetFault cycle hops c a = first hops (hopFault cycle c a)

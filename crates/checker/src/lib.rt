@@ -10,7 +10,7 @@ ghost use Rattle.model.specs.Lines.{linesFault};
 ghost use Rattle.model.specs.Reading.{table};
 ghost use Rattle.chains.specs.Chains.{Linked};
 ghost use Rattle.series.specs.Judging.{judgedAnswer};
-ghost use Rattle.checker.specs.Checks.{checkedAnswer, fine, offsetFault, circuitFault, Row, Ready, Facts};
+ghost use Rattle.checker.specs.Checks.{checkedAnswer, fine, HopThere, hopAt, offsetFault, circuitFault, Row, Ready, Facts};
 use model::USES_MOST;
 use series::Judged;
 
@@ -93,8 +93,27 @@ fn long(x: u32) -> usize
     x as usize
 }
 
-// The hops of circuit c with offset a. Use j of a circuit is the inport of its hop j, and use j + 1 the
-// buffer that this hop leads to.
+// Where the series of a circuit stand at a hop: the inport they come to, the buffer they go to, and how long after their
+// offsets they come.
+struct Hop {
+    port: usize,
+    out: usize,
+    after: usize,
+}
+
+// Hop j of circuit c. Use j of a circuit is the inport of its hop j, and use j + 1 the buffer that this hop leads to.
+fn hop_of(whats: &[usize], afters: &[usize], c: usize, j: usize) -> Hop
+    requires { ⌜ HopThere (now whats) (now afters) c j ⌝ }
+    ensures { λ r. ⌜ r ≡ hopAt (now (whats .entry)) (now (afters .entry)) c j ⌝ }
+{
+    let first = c * USES_MOST;
+    let port = whats[first + j];
+    let out = whats[first + (j + 1)];
+    let after = afters[first + (j + 1)];
+    Hop { port, out, after }
+}
+
+// The hops of circuit c with offset a.
 fn check_offset(
     whats: &[usize],
     afters: &[usize],
@@ -113,10 +132,8 @@ fn check_offset(
     ensures { λ r. ⌜ checkedAnswer r ≡ offsetFault (now (whats .entry)) (now (afters .entry)) (now (t .entry)) lines cycle hops c a ⌝ }
 {
     for j in 0..hops {
-        let port = whats[c * USES_MOST + j];
-        let out = whats[c * USES_MOST + (j + 1)];
-        let after = afters[c * USES_MOST + (j + 1)];
-        let v = series::judge(t, lines, head, next, port, cycle, a + after, out);
+        let h = hop_of(whats, afters, c, j);
+        let v = series::judge(t, lines, head, next, h.port, cycle, a + h.after, h.out);
         let r = named(c, a, j, v);
         if !is_fine(r) {
             return r;
@@ -144,10 +161,8 @@ fn served(
     ensures { λ r. ⌜ (r ≡ true → circuitFault (now (whats .entry)) (now (afters .entry)) (now (t .entry)) lines cycle hops mask c ≡ none) ⌝ }
 {
     for k in 0..hops {
-        let port = whats[c * USES_MOST + k];
-        let out = whats[c * USES_MOST + (k + 1)];
-        let after = afters[c * USES_MOST + (k + 1)];
-        if !series::all_served(t, lines, head, next, port, cycle, after, out, mask) {
+        let h = hop_of(whats, afters, c, k);
+        if !series::all_served(t, lines, head, next, h.port, cycle, h.after, h.out, mask) {
             return false;
         }
     }

@@ -3,7 +3,7 @@ use Prim.Native.Nat.{_-_, _≤_}
 use native.Mathlib.Omega.{arith}
 use borrow.Author.Needs.{needs}
 use Rattle.checker.specs.Checks.{hopFault}
-use Rattle.checker.proofs.Firsts.{Clear, hops-none, hops-more, hops-found, hops-all}
+use Rattle.checker.proofs.Firsts.{hop-there, port-small, after-small, Clear, hops-none, hops-more, hops-found, hops-all}
 use Rattle.checker.proofs.check_offset.Statement.{statement}
 use Rattle.checker.proofs.check_offset.Tie as tie
 
@@ -16,53 +16,16 @@ abbrev μ-loop : tie.MeasureT-loop
 loop-holds : tie.Need-loop-holds Inv-loop μ-loop
 loop-holds c = (omega arith, search hops-none)
 
-mul-port : tie.Need-mul-port Inv-loop μ-loop
-mul-port c = omega arith
-
-add-port : tie.Need-add-port Inv-loop μ-loop
-add-port c = omega arith
-
-mul-port-2 : tie.Need-mul-port-2 Inv-loop μ-loop
-mul-port-2 c = omega arith
-
-shared-slice-read-port : tie.Need-shared-slice-read-port Inv-loop μ-loop
-shared-slice-read-port c = omega arith
-
-mul-out : tie.Need-mul-out Inv-loop μ-loop
-mul-out c = omega arith
-
-add-out : tie.Need-add-out Inv-loop μ-loop
-add-out c = omega arith
-
-add-out-2 : tie.Need-add-out-2 Inv-loop μ-loop
-add-out-2 c = omega arith
-
-mul-out-2 : tie.Need-mul-out-2 Inv-loop μ-loop
-mul-out-2 c = omega arith
-
-shared-slice-read-out : tie.Need-shared-slice-read-out Inv-loop μ-loop
-shared-slice-read-out c = omega arith
-
-mul-after : tie.Need-mul-after Inv-loop μ-loop
-mul-after c = omega arith
-
-add-after : tie.Need-add-after Inv-loop μ-loop
-add-after c = omega arith
-
-add-after-2 : tie.Need-add-after-2 Inv-loop μ-loop
-add-after-2 c = omega arith
-
-mul-after-2 : tie.Need-mul-after-2 Inv-loop μ-loop
-mul-after-2 c = omega arith
-
-shared-slice-read-after : tie.Need-shared-slice-read-after Inv-loop μ-loop
-shared-slice-read-after c = omega arith
+hop-of-requires : tie.Need-hop-of-requires Inv-loop μ-loop
+hop-of-requires c κs = hop-there (c .before .before .before .before .before .before .before .pre .1 .0) (c .loop-test .taken)
 
 add-judge : tie.Need-add-judge Inv-loop μ-loop
-add-judge c = omega (arith, c .before .before .before .before .before .before .before .before .before .before .pre .1 .0 .after (c .before .before .before .before .loop .j) (c .before .before .before .loop-test .taken))
+add-judge c = omega (arith, after-small (c .before .before .before .before .before .before .before .before .before .pre .1 .0) (c .before .before .loop-test .taken) (c .before .hop-of .ensures))
 
 judge-requires : tie.Need-judge-requires Inv-loop μ-loop
-judge-requires c κs = let pre = c .before .before .before .before .before .before .before .before .before .before .pre in (pre .0, (pre .1 .0 .port (c .before .before .before .before .loop .j) (c .before .before .before .loop-test .taken), pre .1 .0 .cycle-good))
+judge-requires c κs =
+    let pre = c .before .before .before .before .before .before .before .before .before .pre in
+    (pre .0, (port-small (pre .1 .0) (c .before .before .loop-test .taken) (c .before .hop-of .ensures), pre .1 .0 .cycle-good))
 
 named-requires : tie.Need-named-requires Inv-loop μ-loop
 named-requires c κs = search needs
@@ -71,7 +34,15 @@ is-fine-requires : tie.Need-is-fine-requires Inv-loop μ-loop
 is-fine-requires c κs = search needs
 
 returns : tie.Need-returns Inv-loop μ-loop
-returns c = hops-found _ _ _ _ _ _ _ _ (c .before .before .before .before .before .before .before .before .loop .inv .1) _ (c .before .before .before .judge .ensures) (c .before .before .named .result) (c .before .before .named .ensures) _ (c .before .is-fine .ensures) _ (c .before .before .before .before .before .before .before .loop-test .taken) (c .if1 .taken)
+returns c =
+    hops-found _ _ _ _ _ _ _ _ (c .before .before .before .before .before .before .before .loop .inv .1) _ _ (c .before .before .before .before .before .hop-of .ensures) (c .before .before .before .judge .ensures)
+    (c .before .before .named .result)
+    (c .before .before .named .ensures)
+    _
+    (c .before .is-fine .ensures)
+    _
+    (c .before .before .before .before .before .before .loop-test .taken)
+    (c .if1 .taken)
 
 add-j : tie.Need-add-j Inv-loop μ-loop
 add-j c = omega arith
@@ -80,7 +51,15 @@ loop-less : tie.Need-loop-less Inv-loop μ-loop
 loop-less c = omega arith
 
 loop-again : tie.Need-loop-again Inv-loop μ-loop
-loop-again c = (omega arith, hops-more _ _ _ _ _ _ _ _ (c .before .before .before .before .before .before .before .before .loop .inv .1) _ (c .before .before .before .judge .ensures) (c .before .before .named .result) (c .before .before .named .ensures) _ (c .before .is-fine .ensures) (c .if1 .left))
+loop-again c = (
+  omega arith,
+  hops-more _ _ _ _ _ _ _ _ (c .before .before .before .before .before .before .before .loop .inv .1) _ _ (c .before .before .before .before .before .hop-of .ensures) (c .before .before .before .judge .ensures)
+      (c .before .before .named .result)
+      (c .before .before .named .ensures)
+      _
+      (c .before .is-fine .ensures)
+      (c .if1 .left),
+)
 
 returns-2 : tie.Need-returns-2 Inv-loop μ-loop
 returns-2 c = search hops-all
@@ -92,20 +71,7 @@ check-offset-spec =
     Inv-loop
     μ-loop
     loop-holds
-    mul-port
-    add-port
-    mul-port-2
-    shared-slice-read-port
-    mul-out
-    add-out
-    add-out-2
-    mul-out-2
-    shared-slice-read-out
-    mul-after
-    add-after
-    add-after-2
-    mul-after-2
-    shared-slice-read-after
+    hop-of-requires
     add-judge
     judge-requires
     named-requires

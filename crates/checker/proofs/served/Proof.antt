@@ -3,7 +3,7 @@ use Prim.Native.Nat.{_-_, _≤_}
 use native.Mathlib.Omega.{arith}
 use borrow.Author.Tests.{not-false}
 use Rattle.model.proofs.Tests.{eq→T}
-use Rattle.checker.proofs.Firsts.{Served, served-none, served-more, served-all}
+use Rattle.checker.proofs.Firsts.{hop-there, port-small, Served, served-none, served-more, served-all}
 use Rattle.checker.proofs.served.Statement.{statement}
 use Rattle.checker.proofs.served.Tie as tie
 
@@ -16,50 +16,11 @@ abbrev μ-loop : tie.MeasureT-loop
 loop-holds : tie.Need-loop-holds Inv-loop μ-loop
 loop-holds c = (omega arith, served-none _ _ _ _ _ _ _)
 
-mul-port : tie.Need-mul-port Inv-loop μ-loop
-mul-port c = omega arith
-
-add-port : tie.Need-add-port Inv-loop μ-loop
-add-port c = omega arith
-
-mul-port-2 : tie.Need-mul-port-2 Inv-loop μ-loop
-mul-port-2 c = omega arith
-
-shared-slice-read-port : tie.Need-shared-slice-read-port Inv-loop μ-loop
-shared-slice-read-port c = omega arith
-
-mul-out : tie.Need-mul-out Inv-loop μ-loop
-mul-out c = omega arith
-
-add-out : tie.Need-add-out Inv-loop μ-loop
-add-out c = omega arith
-
-add-out-2 : tie.Need-add-out-2 Inv-loop μ-loop
-add-out-2 c = omega arith
-
-mul-out-2 : tie.Need-mul-out-2 Inv-loop μ-loop
-mul-out-2 c = omega arith
-
-shared-slice-read-out : tie.Need-shared-slice-read-out Inv-loop μ-loop
-shared-slice-read-out c = omega arith
-
-mul-after : tie.Need-mul-after Inv-loop μ-loop
-mul-after c = omega arith
-
-add-after : tie.Need-add-after Inv-loop μ-loop
-add-after c = omega arith
-
-add-after-2 : tie.Need-add-after-2 Inv-loop μ-loop
-add-after-2 c = omega arith
-
-mul-after-2 : tie.Need-mul-after-2 Inv-loop μ-loop
-mul-after-2 c = omega arith
-
-shared-slice-read-after : tie.Need-shared-slice-read-after Inv-loop μ-loop
-shared-slice-read-after c = omega arith
+hop-of-requires : tie.Need-hop-of-requires Inv-loop μ-loop
+hop-of-requires c κs = hop-there (c .before .before .before .before .before .before .before .pre .1) (c .loop-test .taken)
 
 all-served-requires : tie.Need-all-served-requires Inv-loop μ-loop
-all-served-requires c κs = let pre = c .before .before .before .before .before .before .before .before .before .before .pre in (pre .0, (pre .1 .port (c .before .before .before .before .loop .k) (c .before .before .before .loop-test .taken), pre .1 .cycle-good))
+all-served-requires c κs = let pre = c .before .before .before .before .before .before .before .before .pre in (pre .0, (port-small (pre .1) (c .before .loop-test .taken) (c .hop-of .ensures), pre .1 .cycle-good))
 
 returns : tie.Need-returns Inv-loop μ-loop
 returns c = λ e. absurd (eq→T e)
@@ -71,7 +32,8 @@ loop-less : tie.Need-loop-less Inv-loop μ-loop
 loop-less c = omega arith
 
 loop-again : tie.Need-loop-again Inv-loop μ-loop
-loop-again c = (omega arith, served-more _ _ _ _ _ _ _ _ (c .before .before .before .before .before .before .loop .inv .1) (c .before .all-served .ensures (not-false _ (c .if1 .left))))
+loop-again c =
+    (omega arith, served-more _ _ _ _ _ _ _ _ (c .before .before .before .before .loop .inv .1) _ (c .before .before .hop-of .ensures) (c .before .all-served .ensures (not-false _ (c .if1 .left))))
 
 returns-2 : tie.Need-returns-2 Inv-loop μ-loop
 returns-2 c = λ e. served-all _ _ _ _ _ _ _ _ (c .before .loop .k) (omega arith) (c .before .loop .inv .1)
@@ -83,20 +45,7 @@ served-spec =
     Inv-loop
     μ-loop
     loop-holds
-    mul-port
-    add-port
-    mul-port-2
-    shared-slice-read-port
-    mul-out
-    add-out
-    add-out-2
-    mul-out-2
-    shared-slice-read-out
-    mul-after
-    add-after
-    add-after-2
-    mul-after-2
-    shared-slice-read-after
+    hop-of-requires
     all-served-requires
     returns
     add-k
