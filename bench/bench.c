@@ -61,8 +61,9 @@ static void one_buffer(struct plan *p, int n, int cycle, int demand) {
     for (int c = 0; c < n; c++) { p->cycle[c] = cycle; p->demand[c] = demand; p->hops[c] = 1; }
 }
 
-/* n rings of 16 routers, each walked whole by four circuits of cycle 32; with a demand of 8 they take every slot: 512 lines a ring */
-static void rings(struct plan *p, int n, int demand) {
+/* n rings of 16 routers, each walked whole by four circuits; with a demand of 8 they take every slot. Either all have cycle 32 (512 lines
+ * a ring where the demand is 8), or two of them have cycle 16 and half the demand (384 lines) */
+static void rings(struct plan *p, int n, int demand, int mixed) {
     memset(p, 0, sizeof *p);
     p->buffers = 16 * n;
     p->circuits = 4 * n;
@@ -73,11 +74,11 @@ static void rings(struct plan *p, int n, int demand) {
             p->to[16 * r + i] = first + (back ? (23 - i) % 16 : (i + 1) % 16);
         }
         for (int k = 0; k < 4; k++) {
-            int c = 4 * r + k;
-            p->cycle[c] = 32;
-            p->demand[c] = demand;
+            int c = 4 * r + k, half = mixed && k > 1;
+            p->cycle[c] = half ? 16 : 32;
+            p->demand[c] = half ? demand / 2 : demand;
             p->hops[c] = 16;
-            p->mask[c] = (demand == 8 ? 0x11111111u : (1u << 4 * demand) / 15) << k;
+            p->mask[c] = (p->demand[c] == 8 ? 0x11111111u : (1u << 4 * p->demand[c]) / 15) << k;
             for (int j = 0; j < 16; j++) p->path[c][j] = 16 * r + j;
         }
     }
@@ -132,15 +133,15 @@ static void search(const char *name, const struct plan *p, uint32_t budget) {
 
 struct times { double check, plain, assigned; };
 
-static struct times checks(int n, int demand) {
+static struct times checks(int n, int demand, int mixed) {
     static struct plan p;
     struct times best = {1e9, 1e9, 1e9};
-    rings(&p, n, demand);
+    rings(&p, n, demand, mixed);
     write_plan(&p);
     uint32_t made = vaskunoor_make_tables(request, request_size, assignment, assignment_size, table, sizeof table, details, sizeof details);
     table_size = detail(0);
     int lines = (table_size - 4) / 12;
-    if (made != 0 || lines != 64 * n * demand) { printf("no table: %u\n", made); exit(1); }
+    if (made != 0 || lines != (mixed ? 48 : 64) * n * demand) { printf("no table: %u\n", made); exit(1); }
     for (int round = 0; round < 20; round++) {
         double t = now();
         uint32_t a = vaskunoor_check_tables(request, request_size, assignment, assignment_size, table, table_size, details, sizeof details);
@@ -156,7 +157,8 @@ static struct times checks(int n, int demand) {
         if (t < best.plain) best.plain = t;
         if (a || b || c) { printf("a good plan was refused: %u %u %d\n", a, b, c); exit(1); }
     }
-    printf("%d circuits, %d lines: table check %.3f ms, plain %.3f ms, %.1f times; assignment check %.3f ms\n", p.circuits, lines,
+    printf("%d circuits%s, %d lines: table check %.3f ms, plain %.3f ms, %.1f times; assignment check %.3f ms\n", p.circuits,
+           mixed ? " of cycles 32 and 16" : "", lines,
            best.check * 1e3, best.plain * 1e3, best.plain / best.check, best.assigned * 1e3);
     return best;
 }
@@ -197,7 +199,10 @@ int main(void) {
     one_buffer(&p, 32, 31, 1);
     search("budget 200 million, 32 circuits D 31 N 1 on one buffer", &p, 200000000);
 
-    struct times few = checks(1, 8), thin = checks(8, 1), full = checks(8, 8);
+    struct times few = checks(1, 8, 1), thin = checks(8, 2, 1), full = checks(8, 8, 1);
+    printf("from 384 to 3072 lines, 4 circuits to 32: table check %.1f times the time, assignment check %.1f\n", full.check / few.check, full.assigned / few.assigned);
+    printf("from 768 to 3072 lines, 32 circuits both: table check %.1f times the time, assignment check %.1f\n", full.check / thin.check, full.assigned / thin.assigned);
+    few = checks(1, 8, 0), thin = checks(8, 1, 0), full = checks(8, 8, 0);
     printf("from 512 to 4096 lines, 4 circuits to 32: table check %.1f times the time, assignment check %.1f\n", full.check / few.check, full.assigned / few.assigned);
     printf("from 512 to 4096 lines, 32 circuits both: table check %.1f times the time, assignment check %.1f\n", full.check / thin.check, full.assigned / thin.assigned);
 

@@ -1,11 +1,11 @@
 -- The lines that meet a series, over the bytes of a table file: which they are, and what is told of the series. Assumes nothing: these are definitions.
-use Prim.Native.Nat.{ℕ, _+_, _%_, _<_}
+use Prim.Native.Nat.{ℕ, _+_, _%_, _≤_, _<_}
 use mathlib.Core.Path.{_≡_}
 use mathlib.Core.Bool.{Bool, true, cond}
 use mathlib.Core.List.{List}
 use mathlib.Core.Option.{Option, none, some}
 use lib.Dec.{ltb, eqb}
-use Rattle.model.specs.Sizes.{linesMost}
+use Rattle.model.specs.Sizes.{linesMost, cycleMost}
 use Rattle.model.specs.Divisor.{gcd}
 use Rattle.model.specs.Tests.{_and_, neg, least}
 use Rattle.model.specs.declared.Answer.{Answer}
@@ -83,6 +83,10 @@ judgedAnswer c a j Unserved = some (UnservedAnswer c a j)
 judgedAnswer c a j (Partly m) = some (PartlyAnswer c a j m)
 judgedAnswer c a j (Twice m) = some (TwiceAnswer c a j m)
 judgedAnswer c a j (Astray m) = some (AstrayAnswer c a j m)
+
+-- x has the offsets of a mask modulo g, where g is not 0
+pub record Folds (mask g x : ℕ) : Type 0 where
+  pub has-all : 1 ≤ g → (a : ℕ) → a < cycleMost → bit mask a ≡ true → bit x (a % g) ≡ true
 
 -- no series of the offsets of a mask has a fault, where it comes to the port so long after its offset
 pub record AllServed (t : List ℕ) (lines port cycle after out mask : ℕ) : Type 0 where

@@ -6,7 +6,7 @@ ghost use Rattle.model.specs.Sizes.{resourcesMost};
 ghost use Rattle.model.specs.Tests.{_and_};
 ghost use Rattle.divisor.specs.Common.{Cycle};
 ghost use Rattle.chains.specs.Chains.{Linked};
-ghost use Rattle.series.specs.Judging.{noted, Held, agreesOf, coversOf, metBy, judgedOf, AllServed};
+ghost use Rattle.series.specs.Judging.{noted, Held, agreesOf, coversOf, metBy, judgedOf, Folds, AllServed};
 
 // Of the lines that meet a series: the first, the first that does not serve it whole, and the second.
 // The number of lines where there is none.
@@ -144,9 +144,36 @@ pub fn judge(
     Judged::Fine
 }
 
+// The offsets of the mask modulo g.
+fn residues(mask: u32, g: usize) -> u32
+    requires { ⌜ Cycle g ⌝ }
+    ensures { λ r. ⌜ Folds mask g r ⌝ }
+{
+    let mut acc = 0u32;
+    let mut rest = mask;
+    while rest != 0 {
+        let a = mask::lowest(rest);
+        acc = mask::mark(acc, (a as usize % g) as u32);
+        rest = mask::without(rest, a);
+    }
+    acc
+}
+
+// The same, where `folded` has them modulo `modulus` already.
+fn refold(mask: u32, modulus: usize, folded: u32, g: usize) -> u32
+    requires { ⌜ Folds mask modulus folded ⌝ }
+    requires { ⌜ Cycle g ⌝ }
+    ensures { λ r. ⌜ Folds mask g r ⌝ }
+{
+    if modulus == g {
+        return folded;
+    }
+    residues(mask, g)
+}
+
 // Whether the series of all offsets of the mask, which come to this port `after` slots behind their offsets, are served,
-// told in one walk over the lines. It says yes only where all lines of the port have the circuit's cycle for their period;
-// where it does not say yes, `judge` tells what is wrong with each series, if anything is.
+// told in one walk over the lines: a line whose period is the cycle meets the series of one offset, and any other line must
+// meet none. Where it does not say yes, `judge` tells what is wrong with each series, if anything is.
 pub fn all_served(
     t: &[u8],
     lines: usize,
@@ -163,15 +190,24 @@ pub fn all_served(
     ensures { λ r. ⌜ (r ≡ true → AllServed (now (t .entry)) lines port cycle after out mask) ⌝ }
 {
     let mut met = 0u32;
+    let mut modulus = 0;
+    let mut folded = 0u32;
     let mut m = chains::wide(head[port]);
     while m < lines {
         let here = m;
         m = chains::wide(next[here]);
         let period = lined::period_of(t, here);
-        if period != cycle {
-            return false;
-        }
         let slot = lined::slot_of(t, here);
+        if period != cycle {
+            let g = divisor::common(cycle, period);
+            folded = refold(mask, modulus, folded, g);
+            modulus = g;
+            let r = cyclic::difference(g, slot, after) as u32;
+            if mask::has(folded, r) {
+                return false;
+            }
+            continue;
+        }
         let a = cyclic::difference(cycle, slot, after) as u32;
         if !mask::has(mask, a) {
             continue;
