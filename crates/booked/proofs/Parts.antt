@@ -10,15 +10,14 @@ use Rattle.model.specs.Sizes.{circuitsMost, headSize, assignmentFile}
 use Rattle.model.specs.Bytes.{lengthAt}
 use Rattle.model.specs.Network.{Request, circuitOf}
 use Rattle.model.specs.Holding.{offsetsOf}
-use Rattle.model.specs.Reading.{have, stopped, starts, offsetsVerdict, assignmentWalk, offsetsAt, assignment}
+use Rattle.model.specs.Reading.{have, starts, offsetsVerdict, assignmentWalk, offsetsAt, assignment}
 use Rattle.model.specs.Jobs.{assignmentFault}
-use Rattle.model.specs.declared.Fault.{Fault}
 use Rattle.model.specs.declared.Verdict.the-variants.{Fine}
 use Rattle.model.proofs.Tests.{same, getD-map}
 use Rattle.model.proofs.Readers.{offsets-free, offsets-tests, offsets-sound}
 use Rattle.records.specs.Fields.{endingOf}
-use Rattle.records.specs.declared.Ending.the-variants.{Whole, Stopped}
-use Rattle.records.proofs.Endings.{ends-whole, ends-stopped}
+use Rattle.records.specs.declared.Ending.the-variants.{Whole}
+use Rattle.records.proofs.Endings.{ends-whole}
 use Rattle.booked.specs.Parts.{bookedOf, BookedAt}
 use Rattle.booked.specs.declared.Booked.{Booked}
 
@@ -34,10 +33,6 @@ module _ (q : Request) (s : List ℕ) where
     ending-is : b .ending ≡ endingOf (assignmentWalk q s)
     unfolding bookedOf
     ending-is = ap (λ (b : Booked). b .ending) e
-
-    -- the refusal; by `assignment-byte-fits` of the model its byte fits 32 bits
-    pub file-stopped : (f : Fault) (p : ℕ) → b .ending ≡ Stopped f p → assignmentWalk q s ≡ stopped f p
-    file-stopped f p h = ends-stopped (assignmentWalk q s) f p (sym ending-is ∙ h)
 
     module _ (h : b .ending ≡ Whole) where
       pub file-whole : assignmentFault q s ≡ none

@@ -226,10 +226,6 @@ offsets-in m i = (
   λ h. rw zero-add at (→places cycleMost 0 m i (h .0) (h .1)),
 )
 
-pub offsets-rise : (m : ℕ) → Rises 0 cycleMost (offsets m)
-unfolding offsets
-offsets-rise m = places-rises cycleMost cycleMost 0 m (inl (le-refl cycleMost))
-
 pub offsets-below : (m d : ℕ) → m < 2 ^ d → Rises 0 d (offsets m)
 unfolding offsets
 offsets-below m d h = rw zero-add at (places-rises cycleMost d 0 m (inr h))

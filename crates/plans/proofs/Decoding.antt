@@ -53,9 +53,6 @@ rows-end q n c cycles demands counts whats afters h k r = let e : c ≡ n = omeg
 
 -- the record of circuit c, its rows, and one circuit more
 module _ (s : List ℕ) (n : ℕ) (at : List ℕ) (g : Starts s n at) (c : ℕ) (l : c < n) where
-  pub place-here : c < length at
-  place-here = omega (arith, g .few, g .at-long)
-
   pub starts-here : StartsAt s c (getD at c 0)
   starts-here = g .each c l
 

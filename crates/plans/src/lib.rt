@@ -11,7 +11,7 @@ use model::HEAD_SIZE;
 use model::USES_MOST;
 
 // The mask of the count offsets in the record that starts at p.
-pub fn mask_at(s: &[u8], p: usize, count: usize) -> u32
+fn mask_at(s: &[u8], p: usize, count: usize) -> u32
     requires { ⌜ Rising (now s) p count ⌝ }
     ensures { λ r. ⌜ MaskOf (now (s .entry)) p count r ⌝ }
 {

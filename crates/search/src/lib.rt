@@ -12,14 +12,14 @@ use model::CIRCUITS_MOST;
 use model::CYCLE_MOST;
 
 // What a walk comes to: an answer with what is left of the budget, or that the budget is spent.
-pub enum Outcome {
+enum Outcome {
     Found(u32),
     NoRoom(u32),
     Over,
 }
 
 // The entries of the table at base + a for the set bits a of m, joined bit by bit with from.
-pub fn gather(table: &[u32], base: usize, m: u32, from: u32) -> u32
+fn gather(table: &[u32], base: usize, m: u32, from: u32) -> u32
     requires { ⌜ base + cycleMost ≤ length (now table) ⌝ }
     ensures { λ r. ⌜ r ≡ gathered (now (table .entry)) base from (offsets m) ⌝ }
 {
@@ -34,7 +34,7 @@ pub fn gather(table: &[u32], base: usize, m: u32, from: u32) -> u32
 }
 
 // The offsets of circuit c that clash with one taken by an earlier circuit.
-pub fn blocked(table: &[u32], taken: &[u32], c: usize) -> u32
+fn blocked(table: &[u32], taken: &[u32], c: usize) -> u32
     requires { ⌜ Before (now table) (now taken) c ⌝ }
     ensures { λ r. ⌜ ((i : ℕ) → bit r i ≡ barred (clashIn (now (table .entry))) c i 0 (map offsets (take c (now (taken .entry))))) ⌝ }
 {
@@ -48,7 +48,7 @@ pub fn blocked(table: &[u32], taken: &[u32], c: usize) -> u32
 }
 
 // The walk from circuit c on.
-pub fn enter(
+fn enter(
     table: &[u32],
     cycles: &[u32],
     demands: &[u32],
@@ -90,7 +90,7 @@ fn next_cell(shut: u32, a: u32, cycle: u32, demand: u32, have: u32) -> u32
 // The walk from cell `from` of circuit c on, whose taken offsets are the mask's bits and whose
 // offsets in `shut` are not free. A turn passes the cells that can only be skipped; then a cell is
 // taken where it is free, and where that comes to nothing it is skipped.
-pub fn walk(
+fn walk(
     table: &[u32],
     cycles: &[u32],
     demands: &[u32],
