@@ -5,13 +5,14 @@ use mathlib.Core.Path.{_≡_, refl, sym, ap, subst, _∙_}
 use mathlib.Core.List.{List}
 use native.Mathlib.Decide.{ℕ-discrete}
 use native.Mathlib.Omega.{arith}
-use borrow.Author.Tests.{eq-eqb, ne-eqb}
+use borrow.Author.Tests.{eq-eqb, ne-eqb, eqb-true}
 use lib.ListN.{length, getD, set, length-set}
 use lib.Seq.{getD-set-same, getD-set-other}
+use mathlib.Core.Bool.{true}
 use Rattle.model.specs.Sizes.{local, inportOf, resourcesMost}
 use Rattle.lined.specs.Parts.{Is}
-use Rattle.chains.specs.Chains.{nextIn, portOf, portAt, lineIn, has, Tabled, Room, Chained}
-use Rattle.chains.proofs.Chains.{next-end, next-here, next-skip}
+use Rattle.chains.specs.Chains.{nextIn, portOf, portAt, lineIn, has, Tabled, Room, Chained, Linked}
+use Rattle.chains.proofs.Chains.{Next, next-is, next-end, next-here, next-skip}
 
 -- ---- the inport of a line: i and r are what was read of it
 
@@ -90,3 +91,14 @@ module _ (t : List ℕ) (lines m p : ℕ) (tabled : Tabled t lines) (some : 0 < 
 
 pub chain-all : (t : List ℕ) (lines m : ℕ) (head next : List ℕ) → m ≤ 0 → Chained t lines m head next → Chained t lines 0 head next
 chain-all t lines m head next h ch = let e : m ≡ 0 = omega arith in rw e at ch
+
+-- ---- where a walk along a chain comes: to the first line of the port, and from one to the next
+
+module _ {t : List ℕ} {lines : ℕ} (port : ℕ) {head next : List ℕ} (linked : Linked t lines head next) where
+  pub at-first : {m : ℕ} → port < resourcesMost → m ≡ getD head port 0 → Next lines (has t port) 0 m
+  at-first h e = rw (e ∙ linked .chains .first port h) (next-is lines (has t port) 0 (omega arith))
+
+  pub at-next : {m m′ : ℕ} → m < lines → has t port m ≡ true → m′ ≡ getD next m 0 → Next lines (has t port) (suc m) m′
+  at-next {m} low on e =
+      let is : portAt t m ≡ port = eqb-true (portAt t m) port on in
+      rw (e ∙ linked .chains .onward m (omega arith) low ∙ ap (λ k. nextIn lines (has t k) (suc m)) is) (next-is lines (has t port) (suc m) low)

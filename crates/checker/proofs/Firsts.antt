@@ -9,7 +9,6 @@ use native.Mathlib.Decide.{decLt}
 use native.Mathlib.Omega.{arith}
 use borrow.Author.Tests.{not-true, not-false}
 use lib.ListN.{getD}
-use lib.Pow.{pow-pos}
 use Rattle.model.specs.Sizes.{resourcesMost, wordEnd}
 use Rattle.model.specs.Tests.{_else_, _∈_, first}
 use Rattle.model.specs.declared.Answer.{Answer}
@@ -138,9 +137,6 @@ module _ (whats afters t : List ℕ) (lines cycle hops mask c : ℕ) where
     left-found h =
         let x = told-some r (sym be ∙ not-true b h) in
         x .1 ∙ sym (split ∙ ap (λ o. o else firstIn (offsets (left - 2 ^ i)) (offsetFault whats afters t lines cycle hops c)) (x .1))
-
-pub left-less : (left i left′ : ℕ) → Lowest left i → left′ ≡ left - 2 ^ i → left′ < left
-left-less left i left′ low e = omega (arith, low .least, pow-pos i)
 
 -- ---- all offsets of a mask at once, hop by hop
 

@@ -9,7 +9,7 @@ use mathlib.Core.Option.{Option, none, some}
 use native.Mathlib.Numerals.{add-one}
 use native.Mathlib.Omega.{arith}
 use borrow.Author.Tests.{eq-eqb, ne-eqb, ltb-true}
-use lib.Dec.{T, eqb, eqb→eq, ltb}
+use lib.Dec.{eqb, eqb→eq, ltb}
 use lib.ListN.{length, getD}
 use Rattle.model.specs.Sizes.{buffersMost, resourcesMost, wordEnd, local, inportOf, tableFile}
 use Rattle.model.specs.Divisor.{gcd}
@@ -20,7 +20,7 @@ use Rattle.model.specs.Lines.{Line, Series, lineOf, meets?, serves?, series, of
 use Rattle.model.specs.Reading.{tableWalk, table}
 use Rattle.model.specs.Answers.{damage}
 use Rattle.model.specs.declared.Answer.the-variants.{Unserved as UnservedAnswer, Partly as PartlyAnswer, Twice as TwiceAnswer, Astray as AstrayAnswer}
-use Rattle.model.proofs.Tests.{and→, →and, eq→eqb, least-is, least-unique}
+use Rattle.model.proofs.Tests.{and→, →and, eq→eqb, least-is, least-unique, bool-same}
 use Rattle.model.proofs.Sound.{SoundRequest, hop-small}
 use Rattle.model.proofs.Readers.{table-sound}
 use Rattle.lined.specs.Parts.{LineIn, LeadsTo, GoodLine}
@@ -35,12 +35,6 @@ use Rattle.series.specs.declared.Judged.the-variants.{Fine, Unserved, Partly, T
 -- ---- tests and searches that agree
 
 -- two tests agree where each passes with the other
-both-ways : (a b : Bool) → (T a → T b) → (T b → T a) → a ≡ b
-both-ways true true f g = refl
-both-ways true false f g = absurd (f tt)
-both-ways false true f g = absurd (g tt)
-both-ways false false f g = refl
-
 least-same : (n : ℕ) (f g : ℕ → Bool) → ((i : ℕ) → i < n → f i ≡ g i) → least n f ≡ least n g
 least-same n f g same =
     let l = least-is n f in
@@ -95,7 +89,7 @@ module _ (net : Network) (small : length (net .links) ≤ buffersMost) (l : Line
       (sym (b .to) ∙ ap (λ n. toRouter net n) e ∙ to, e ∙ sym i)
 
   port-test : AtPort net s port → (eqb (l .router) (s .router) and eqb (l .inp) (s .inp)) ≡ eqb (portOf (l .router) (l .inp)) port
-  port-test at = both-ways _ _
+  port-test at = bool-same _ _
       (λ t. let e = and→ _ _ t in eq→eqb (same-port at (eqb→eq _ _ (e .0)) (eqb→eq _ _ (e .1))))
       (λ t. let e = port-same at (good .inp) (eqb→eq _ _ t) in →and _ _ (eq→eqb (e .0)) (eq→eqb (e .1)))
 

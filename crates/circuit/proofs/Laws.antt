@@ -7,6 +7,7 @@ use native.Mathlib.Omega.{arith}
 use lib.ListN.{length}
 use lib.Dec.{eqb, leb}
 use borrow.Author.Tests.{lt-ltb, le-ltb, eq-eqb, ne-eqb}
+use Rattle.model.proofs.Tests.{not-neg}
 use Rattle.model.specs.Tests.{neg, least}
 use Rattle.model.specs.Bytes.{lengthAt}
 use Rattle.model.specs.Reading.{fromPlace, toPlace, pathPlace, andThen, have, cycleAt, demandAt, hopsAt, hopAt, badHop, gap, brokenAt, circuitHead, circuitBody, circuitVerdict}
@@ -30,18 +31,13 @@ module _ (s : List ℕ) (p : ℕ) where
   unfolding gap
   no-gap j e = rw e
 
-  neg-not : (b : Bool) → not b ≡ neg b
-  unfolding neg
-  neg-not true = refl
-  neg-not false = refl
-
   pub gap-here : (j x y to from : ℕ) → (j ≡ 0 → ⊥) → Word s (pathPlace p (j - 1)) x → Word s (pathPlace p j) y → Byte s (toPlace x) to
       → Byte s (fromPlace y) from → not (eqb to from) ≡ gap s p j
   unfolding gap
   gap-here zero x y to from ne v w t f = absurd (ne refl)
   gap-here (suc i) x y to from ne v w t f =
       let before : x ≡ hopAt s p i = v .is ∙ ap (hopAt s p) (omega arith) in
-      simp (← before, ← w .is, ← t .is, ← f .is) (neg-not (eqb to from))
+      simp (← before, ← w .is, ← t .is, ← f .is) (not-neg (eqb to from))
 
   pub broken-again : (j i : ℕ) → i ≡ least j (sameHop s p j) → i < j → true ≡ brokenAt s p j
   unfolding brokenAt

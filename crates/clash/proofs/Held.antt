@@ -11,7 +11,7 @@ use lib.Dec.{T, eqb, eqb→eq}
 use Rattle.model.specs.Tests.{_and_, any, _∈_}
 use Rattle.model.specs.Network.{Use}
 use Rattle.model.specs.Holding.{Booking, Holds, holds?}
-use Rattle.model.proofs.Tests.{T→eq, eq→T, and→, →and, any→, →any, eq→eqb, →upTo}
+use Rattle.model.proofs.Tests.{T→eq, eq→T, and→, →and, any→, →any, eq→eqb, →upTo, bool-same}
 use Rattle.model.proofs.Divisor.{sub-cong}
 use Rattle.model.proofs.Clashing.{holds→, →holds}
 use Rattle.model.proofs.Sound.{rises-in}
@@ -25,11 +25,6 @@ use Rattle.pairs.specs.Bookings.{Known, bookingAt}
 use Rattle.cyclic.proofs.Ahead.{ahead-low, ahead-back}
 use Rattle.pairs.proofs.Marking.{any-zero, any-more}
 use Rattle.clash.specs.Held.{heldBy, HoldsIs, BothIs}
-
-pub bool-same : (a b : Bool) → (T a → T b) → (T b → T a) → a ≡ b
-bool-same true b to back = sym (T→eq b (to tt))
-bool-same false true to back = absurd (back tt)
-bool-same false false to back = refl
 
 -- ---- an offset of the mask comes round in slot t exactly where the bit of the difference is set
 

@@ -7,7 +7,7 @@ use native.Mathlib.Omega.{arith}
 use lib.ListN.{getD}
 use lib.Dec.{T}
 use Rattle.model.specs.Holding.{Booking, Holds, Clash, clashes?}
-use Rattle.model.proofs.Tests.{upTo→}
+use Rattle.model.proofs.Tests.{upTo→, bool-same}
 use Rattle.model.proofs.Clashing.{clashes→}
 use Rattle.plans.specs.Rows.{usesMost}
 use Rattle.pairs.specs.Differences.{useAt, usesAt}
@@ -15,7 +15,6 @@ use Rattle.pairs.specs.Bookings.{Long, Known, bookingAt}
 use Rattle.pairs.proofs.Booked.{placed}
 use Rattle.sets.specs.Sets.{wordBits, setWords, InSet, Listed, SetOf, Apart}
 use Rattle.sets.proofs.Sets.{no-common}
-use Rattle.clash.proofs.Held.{bool-same}
 
 pub listed : {cycles counts whats afters : List ℕ} {c : ℕ} → Long cycles counts whats afters → Known cycles counts c → Listed counts whats c
 listed long known = let p = placed long known in record { listed = p .listed; there = p .there .whats-in }

@@ -7,10 +7,10 @@ use mathlib.Core.List.{List, List·Memᴰ·not-nil, List·Memᴰ·cases-cons}
 use native.Mathlib.Nat.{mod-self, mod-eq-of-lt, mod-lt, mod-add-mod, zero-add}
 use native.Mathlib.Decide.{decLt, ℕ-discrete}
 use native.Mathlib.Omega.{arith}
-use borrow.Author.Tests.{lt-ltb, le-ltb, eq-eqb, ne-eqb, eqb-true, not-true}
+use borrow.Author.Tests.{lt-ltb, le-ltb, eq-eqb, ne-eqb, not-true}
 use lib.ListN.{getD}
-use lib.Pow.{pow-pos}
 use lib.Dec.{ltb, eqb}
+use Rattle.chains.proofs.Linking.{at-first, at-next}
 use Rattle.model.specs.Sizes.{resourcesMost}
 use Rattle.model.specs.Tests.{_and_, neg, _∈_, least}
 use Rattle.model.proofs.Tests.{eq→T, least-is, least-at}
@@ -20,8 +20,8 @@ use Rattle.mask.proofs.Laws.{bit-none, marked-kept, marked-new, offsets-in, off
 use Rattle.cyclic.specs.Ahead.{ahead}
 use Rattle.cyclic.proofs.Ahead.{ahead-low, ahead-only}
 use Rattle.lined.specs.Parts.{Is}
-use Rattle.chains.specs.Chains.{nextIn, portAt, lineIn, has, Linked}
-use Rattle.chains.proofs.Chains.{T-false, Next, next-is}
+use Rattle.chains.specs.Chains.{lineIn, has, Linked}
+use Rattle.chains.proofs.Chains.{T-false, Next}
 use Rattle.series.specs.Judging.{coversOf, meetsAt, partAt, oneOf, againAt, metBy, judgedOf, Folds, AllServed}
 use Rattle.series.specs.declared.Judged.the-variants.{Fine}
 use Rattle.series.proofs.Walking.{agrees-here, agrees-same, covers-here, meet-has, and-false}
@@ -49,23 +49,21 @@ module _ (t : List ℕ) (lines port cycle after out mask : ℕ) where
     pub once : (a : ℕ) → bit met a ≡ true → Once a m
 
   pub serving-none : (head next : List ℕ) (m : ℕ) → Linked t lines head next → port < resourcesMost → m ≡ getD head port 0 → Serving 0 m
-  serving-none head next m linked h e = rw (e ∙ linked .chains .first port h) (record {
+  serving-none head next m linked h e = record {
     high = x .high;
     on = x .found;
     waiting = λ a l w u k b. meet-has t lines port cycle (a + after) k (x .none-before k (omega arith) b);
     once = λ a b. absurd (T-false (bit 0 a) (bit-none a) (eq→T b));
-  })
+  }
     where
-      x : Next lines (has t port) 0 (nextIn lines (has t port) 0)
-      x = next-is lines (has t port) 0 (omega arith)
+      x : Next lines (has t port) 0 m
+      x = at-first port linked h e
 
   -- ---- from line m to the next of the chain
 
   module _ (met m : ℕ) (low : m < lines) (head next : List ℕ) (linked : Linked t lines head next) (g : Serving met m) (m′ : ℕ) (e : m′ ≡ getD next m 0) where
     x : Next lines (has t port) (suc m) m′
-    x =
-        let is : portAt t m ≡ port = eqb-true (portAt t m) port (g .on low) in
-        rw (e ∙ linked .chains .onward m (omega arith) low ∙ ap (λ k. nextIn lines (has t k) (suc m)) is) (next-is lines (has t port) (suc m) low)
+    x = at-next port linked low (g .on low) e
 
     pub serving-less : lines - m′ < lines - m
     serving-less = omega (arith, x .low)
@@ -257,9 +255,6 @@ module _ (mask g : ℕ) where
           pick : (b ≡ a) ⊎ (b ∈ offsets (rest - 2 ^ a)) → (b ∈ offsets rest′) ⊎ (bit acc′ (b % g) ≡ true)
           pick (inl s) = inr (rw s (marked-new marked))
           pick (inr i) = inl (rw e i)
-
-  pub folding-less : (rest a rest′ : ℕ) → Lowest rest a → rest′ ≡ rest - 2 ^ a → rest′ < rest
-  folding-less rest a rest′ low e = omega (arith, low .least, pow-pos a)
 
   pub folding-all : (acc rest : ℕ) → rest ≡ 0 → Folding acc rest → Folds mask g acc
   folding-all acc rest z f = record { has-all = λ p a h w. go a (f .each a (offsets-in mask a .1 (h, eq→T w))) }

@@ -6,21 +6,22 @@ use mathlib.Core.List.{List}
 use native.Mathlib.Nat.{mod-self, mod-eq-of-lt}
 use native.Mathlib.Decide.{decLt}
 use native.Mathlib.Omega.{arith}
-use borrow.Author.Tests.{lt-ltb, le-ltb, eq-eqb, ne-eqb, eqb-true, not-true}
+use borrow.Author.Tests.{lt-ltb, le-ltb, eq-eqb, ne-eqb, not-true}
 use lib.ListN.{getD}
 use lib.Dec.{T, ltb, eqb}
+use Rattle.chains.proofs.Linking.{at-first, at-next}
 use Rattle.model.specs.Sizes.{resourcesMost}
 use Rattle.model.specs.Tests.{_and_, neg, least}
 use Rattle.model.specs.Divisor.{gcd}
 use Rattle.model.proofs.Divisor.{gcd-step, gcd-zero}
-use Rattle.model.proofs.Tests.{eq→T, least-is, least-at}
+use Rattle.model.proofs.Tests.{eq→T, least-is, least-at, not-neg}
 use Rattle.divisor.specs.Common.{Cycle, Common}
 use Rattle.lined.specs.Parts.{Is}
-use Rattle.chains.specs.Chains.{nextIn, portAt, lineIn, has, Linked}
+use Rattle.chains.specs.Chains.{lineIn, has, Linked}
 use Rattle.series.specs.Judging.{seen, noted, Held, agreesOf, coversOf, meetsAt, partAt, oneOf, againAt, metBy, judgedOf}
 use Rattle.series.specs.declared.Met.{Met}
 use Rattle.series.specs.declared.Judged.the-variants.{Fine, Unserved, Partly, Twice, Astray}
-use Rattle.chains.proofs.Chains.{T-false, Next, next-is}
+use Rattle.chains.proofs.Chains.{T-false, Next}
 use Rattle.series.proofs.Seeing.{Seen, seen-is, seen-none, seen-over, seen-first, seen-before, seen-all}
 
 -- ---- a line against a series: period and slot are what was read of it
@@ -133,11 +134,6 @@ unfolding _and_
 and-false true b e = e
 and-false false b e = refl
 
-not-neg : (b : Bool) → not b ≡ neg b
-unfolding neg
-not-neg true = refl
-not-neg false = refl
-
 module _ (t : List ℕ) (lines port cycle start : ℕ) where
   abbrev meet : ℕ → Bool
   meet = meetsAt t port cycle start
@@ -169,18 +165,18 @@ module _ (t : List ℕ) (lines port cycle start : ℕ) where
     pub two-is : two ≡ seen lines again m
 
   pub going-none : (head next : List ℕ) (m : ℕ) → Linked t lines head next → port < resourcesMost → m ≡ getD head port 0 → Going lines lines lines m
-  going-none head next m linked h e = rw (e ∙ linked .chains .first port h) (record {
+  going-none head next m linked h e = record {
     high = x .high;
     on = x .found;
     one-is = none meet meet-has;
     part-is = none part? part-has;
     two-is = none again again-has;
-  })
+  }
     where
-      x : Next lines (has t port) 0 (nextIn lines (has t port) 0)
-      x = next-is lines (has t port) 0 (omega arith)
+      x : Next lines (has t port) 0 m
+      x = at-first port linked h e
 
-      none : (p : ℕ → Bool) → ((j : ℕ) → has t port j ≡ false → p j ≡ false) → lines ≡ seen lines p (nextIn lines (has t port) 0)
+      none : (p : ℕ → Bool) → ((j : ℕ) → has t port j ≡ false → p j ≡ false) → lines ≡ seen lines p m
       none p only = sym (seen-over lines p 0 _ (x .low) (x .high) (λ j a b. only j (x .none-before j a b)) ∙ seen-none lines p)
 
   module _ (one part two m : ℕ) (low : m < lines) where
@@ -189,9 +185,7 @@ module _ (t : List ℕ) (lines port cycle start : ℕ) where
 
     module _ (head next : List ℕ) (linked : Linked t lines head next) (g : Going one part two m) (m′ : ℕ) (e : m′ ≡ getD next m 0) where
       link-next : Next lines (has t port) (suc m) m′
-      link-next =
-          let is : portAt t m ≡ port = eqb-true (portAt t m) port (g .on low) in
-          rw (e ∙ linked .chains .onward m (omega arith) low ∙ ap (λ k. nextIn lines (has t k) (suc m)) is) (next-is lines (has t port) (suc m) low)
+      link-next = at-next port linked low (g .on low) e
 
       pub going-less : lines - m′ < lines - m
       going-less = omega (arith, link-next .low)

@@ -4,6 +4,7 @@ use mathlib.Core.Path.{_≡_, refl, sym, ap, _∙_}
 use mathlib.Core.List.{List, [], _++_, map}
 use native.Mathlib.Omega.{arith}
 use lib.ListN.{length, getD, length-append}
+use Rattle.model.proofs.Written.{length-record}
 use Rattle.model.specs.Sizes.{headSize, offsetsKind, endKind}
 use Rattle.model.specs.Tests.{upTo, joined, sum}
 use Rattle.model.specs.Bytes.{word, recordOf}
@@ -17,10 +18,6 @@ use Rattle.writer.proofs.Lists.{leftOf, upTo-same, map-upTo, joined-len
 use Rattle.writer.proofs.Rest.{Rest, rest-start, part-end}
 
 -- ---- records
-
-pub record-length : (kind : ℕ) (body : List ℕ) → length (recordOf kind body) ≡ headSize + length body
-unfolding recordOf
-record-length kind body = omega arith
 
 -- a head, and the body behind it
 pub record-laid : {out₀ out out′ : List ℕ} {at r : ℕ} (kind len : ℕ) (body : List ℕ)
@@ -52,7 +49,7 @@ module _ (n : ℕ) (masks : List ℕ) where
   pub assignment-room : assignmentRoom n masks ≡ length (joined (upTo n ofMask)) + headSize
   unfolding assignmentRoom
   assignment-room =
-      let each = upTo-same n (λ c. length (ofMask c)) (λ c. headSize + length (given c)) (λ c h. record-length offsetsKind (given c)) in
+      let each = upTo-same n (λ c. length (ofMask c)) (λ c. headSize + length (given c)) (λ c h. length-record offsetsKind (given c)) in
       omega (arith, joined-length n ofMask, ap sum each)
 
   module _ (assigned : List (List ℕ)) (a : Assigns assigned n masks) where

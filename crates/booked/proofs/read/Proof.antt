@@ -1,18 +1,21 @@
 -- `booked::read` meets its contract. The loop's invariant is `Going`. Assumes nothing.
 use Prim.Native.Nat.{_-_}
+use native.Mathlib.Omega.{arith}
 use borrow.Author.Needs.{needs}
-use Rattle.booked.proofs.Walking.{Going, going-start, on-here, end-here, refused-here, less-here, room-here, slot-here, count-here}
+use lib.ListN.{length}
+use Rattle.records.proofs.Walking.{Going, going-start}
+use Rattle.booked.proofs.Walking.{steps, on-here, end-here, refused-here, less-here, room-here, slot-here, count-here}
 use Rattle.booked.proofs.read.Statement.{statement}
 use Rattle.booked.proofs.read.Tie as tie
 
 abbrev Inv-loop : tie.InvT-loop
-Inv-loop s n cycles demands at₀ k₀ p₀ at k p = Going n cycles demands s at k p
+Inv-loop s n cycles demands at₀ k₀ p₀ at k p = Going (steps n cycles demands s) (length s) 0 at k p
 
 abbrev μ-loop : tie.MeasureT-loop
 μ-loop s n cycles demands at₀ k₀ p₀ at k p = n - k
 
 loop-holds : tie.Need-loop-holds Inv-loop μ-loop
-loop-holds c = going-start _ _ _ _
+loop-holds c = going-start _ _ 0 (omega arith)
 
 entry-requires : tie.Need-entry-requires Inv-loop μ-loop
 entry-requires c κs = search needs

@@ -2,7 +2,8 @@
 use mathlib.Core.Path.{sym}
 use native.Mathlib.Omega.{arith}
 use borrow.Author.Needs.{needs}
-use Rattle.checker.proofs.Firsts.{Left, left-all, left-more, left-less, left-found, left-none}
+use Rattle.mask.proofs.Laws.{lowest-less}
+use Rattle.checker.proofs.Firsts.{Left, left-all, left-more, left-found, left-none}
 use Rattle.checker.proofs.check_circuit.Statement.{statement}
 use Rattle.checker.proofs.check_circuit.Tie as tie
 
@@ -40,7 +41,7 @@ without-requires : tie.Need-without-requires Inv-loop μ-loop
 without-requires c κs = search needs
 
 loop-less : tie.Need-loop-less Inv-loop μ-loop
-loop-less c = search left-less
+loop-less c = search lowest-less
 
 loop-again : tie.Need-loop-again Inv-loop μ-loop
 loop-again c = search left-more

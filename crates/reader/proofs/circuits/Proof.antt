@@ -4,7 +4,8 @@ use lib.ListN.{length}
 use borrow.Author.Needs.{needs}
 use Rattle.model.specs.Reading.{requestStep}
 use Rattle.model.specs.Sizes.{circuitsMost}
-use Rattle.reader.proofs.Walking.{Going, going-start, on-here, room-here, slot-here, count-here, less-here, end-here, refused-here}
+use Rattle.records.proofs.Walking.{Going, going-start}
+use Rattle.reader.proofs.Walking.{on-here, room-here, slot-here, count-here, less-here, end-here, refused-here}
 use Rattle.reader.proofs.circuits.Statement.{statement}
 use Rattle.reader.proofs.circuits.Tie as tie
 

@@ -1,9 +1,10 @@
 -- `writer::put_offsets` meets its contract: the head, and the offsets behind it. Assumes nothing.
 use native.Mathlib.Omega.{arith}
 use borrow.Author.Needs.{needs}
+use Rattle.model.proofs.Written.{length-record}
 use Rattle.model.specs.Sizes.{offsetsKind}
 use Rattle.mask.specs.Bits.{offsets}
-use Rattle.writer.proofs.Files.{record-length, record-laid}
+use Rattle.writer.proofs.Files.{record-laid}
 use Rattle.writer.proofs.put_offsets.Statement.{statement}
 use Rattle.writer.proofs.put_offsets.Tie as tie
 
@@ -14,13 +15,13 @@ cast-len : tie.Need-cast-len
 cast-len c = search needs
 
 put-head-requires : tie.Need-put-head-requires
-put-head-requires c κs = omega (arith, record-length offsetsKind (offsets (c .before .before .before .args .mask)))
+put-head-requires c κs = omega (arith, length-record offsetsKind (offsets (c .before .before .before .args .mask)))
 
 add-put-places : tie.Need-add-put-places
 add-put-places c = search needs
 
 put-places-requires : tie.Need-put-places-requires
-put-places-requires c κs = omega (arith, record-length offsetsKind (offsets (c .before .before .before .before .before .before .before .args .mask)))
+put-places-requires c κs = omega (arith, length-record offsetsKind (offsets (c .before .before .before .before .before .before .before .args .mask)))
 
 same-length : tie.Need-same-length
 same-length c = search needs
@@ -32,7 +33,7 @@ returns c =
     (c .before .before .before .before .before .before .put-head .ensures)
     (c .before .before .before .before .before .before .before .before .size .ensures)
     (c .before .before .put-places .ensures)
-    (omega (arith, record-length offsetsKind os))
+    (omega (arith, length-record offsetsKind os))
 
 pub put-offsets-spec : {M : Type 1} → statement M
 put-offsets-spec =
