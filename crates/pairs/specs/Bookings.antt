@@ -1,4 +1,4 @@
--- What circuits hold, as rows of numbers say it, and how the rows belong to a request. Assumes nothing: these are definitions.
+-- What circuits hold, as rows of numbers say it. Assumes nothing: these are definitions.
 use Prim.Native.Nat.{ℕ, _*_, _≤_, _<_}
 use mathlib.Core.Path.{_≡_}
 use mathlib.Core.List.{List}
