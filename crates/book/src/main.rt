@@ -18,7 +18,7 @@ fn book(request: &[u8]) {
             make(request, &assignment, bytes, visits);
         }
         refusal => {
-            say::refused(refusal);
+            tool_say::refused(refusal);
         }
     }
 }
@@ -32,15 +32,15 @@ fn make(request: &[u8], area: &[u8], size: u32, visits: u32) {
             show(&table, bytes, visits);
         }
         refusal => {
-            say::refused(refusal);
+            tool_say::refused(refusal);
         }
     }
 }
 
 fn show(area: &[u8], size: u32, visits: u32) {
     let written = io::count(size as isize, area);
-    say::counted(b"done visits ", visits as usize);
-    say::counted(b" lines ", say::line_count(written));
-    say::text(b"\n");
-    say::lines(&area[..written]);
+    tool_say::counted(b"done visits ", visits as usize);
+    tool_say::counted(b" lines ", tool_say::line_count(written));
+    tool_say::text(b"\n");
+    tool_say::lines(&area[..written]);
 }

@@ -9,10 +9,10 @@ use Rattle.model.specs.Bytes.{over}
 use Rattle.model.specs.Answers.{told}
 use Rattle.model.specs.Jobs.{Call, Contract}
 use Rattle.model.specs.declared.Answer.{Answer}
-use Rattle.answers.specs.Handed.{handed}
-use Rattle.answers.specs.declared.Details.{Details}
-use Rattle.writer.specs.Pasting.{pasted}
-use Rattle.writer.proofs.Pastes.{pasted-then, pasted-over}
+use Rattle.call_answer.specs.Handed.{handed}
+use Rattle.call_answer.specs.declared.Details.{Details}
+use Rattle.file_writer.specs.Pasting.{pasted}
+use Rattle.file_writer.proofs.Pastes.{pasted-then, pasted-over}
 use Rattle.boot.specs.Face.{detailsSize, tooShort, long, detailBytes, faced, Face}
 
 -- an area that is written over from the front to its end

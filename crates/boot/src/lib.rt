@@ -5,7 +5,7 @@ ghost use Prim.Native.Nat.{_+_, _≤_};
 ghost use lib.ListN.{length};
 ghost use Rattle.model.specs.Answers.{told};
 ghost use Rattle.model.specs.Jobs.{read, allot, check, make, verify};
-ghost use Rattle.writer.specs.Pasting.{pasted};
+ghost use Rattle.file_writer.specs.Pasting.{pasted};
 ghost use Rattle.boot.specs.Face.{Face, detailsSize, detailBytes, long};
 use model::Answer;
 
@@ -30,7 +30,7 @@ fn tell(answer: Answer, details: &mut [u8]) -> u32
     ensures number { λ r. ⌜ r ≡ told answer .number ⌝ }
     ensures bytes { λ r. ⌜ now (details .exit) ≡ detailBytes (told answer) ⌝ }
 {
-    let said = answers::hand_out(answer);
+    let said = call_answer::hand_out(answer);
     put_number(details, 0, said.first);
     put_number(details, 4, said.second);
     put_number(details, 8, said.third);

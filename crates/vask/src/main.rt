@@ -67,22 +67,22 @@ fn start_with_three(job: &[u8]) {
 }
 
 fn usage() {
-    say::text(b"usage:\n");
-    say::text(b"  vask read REQUEST                          is the request in order?\n");
-    say::text(
+    tool_say::text(b"usage:\n");
+    tool_say::text(b"  vask read REQUEST                          is the request in order?\n");
+    tool_say::text(
         b"  vask allocate REQUEST ASSIGNMENT [BUDGET]  give slots to its circuits, and write them to ASSIGNMENT\n",
     );
-    say::text(b"  vask check REQUEST ASSIGNMENT              do two circuits ever clash?\n");
-    say::text(
+    tool_say::text(b"  vask check REQUEST ASSIGNMENT              do two circuits ever clash?\n");
+    tool_say::text(
         b"  vask make REQUEST ASSIGNMENT TABLE         make the lines that the slots need, and write them to TABLE\n",
     );
-    say::text(
+    tool_say::text(
         b"  vask verify REQUEST ASSIGNMENT TABLE       do these lines carry every packet, for ever?\n",
     );
-    say::text(
+    tool_say::text(
         b"  vask show FILE                             list the records of a request, an assignment or a table\n",
     );
-    say::text(
+    tool_say::text(
         b"BUDGET is how many choices a search may enter, 1000000 where it is not given and 4294967295 at most.\n",
     );
 }
@@ -96,7 +96,7 @@ fn read() {
         return;
     }
     let size = io::count(got, &request);
-    explain::answered(vaskunoor::read_request(&request[..size]));
+    tool_explain::answered(vaskunoor::read_request(&request[..size]));
 }
 
 fn list() {
@@ -106,7 +106,7 @@ fn list() {
         return;
     }
     let size = io::count(got, &file);
-    show::records(&file[..size]);
+    tool_show::records(&file[..size]);
 }
 
 fn allocate_within() {
@@ -160,7 +160,7 @@ fn on_both(job: Job) {
 fn act(job: Job, request: &[u8], assignment: &[u8]) {
     match job {
         Job::Check => {
-            explain::answered(vaskunoor::check_assignment(request, assignment));
+            tool_explain::answered(vaskunoor::check_assignment(request, assignment));
         }
         Job::Make => {
             make(request, assignment);
@@ -184,15 +184,15 @@ fn verify(request: &[u8], assignment: &[u8]) {
         return;
     }
     let size = io::count(got, &table);
-    explain::answered(vaskunoor::check_tables(request, assignment, &table[..size]));
+    tool_explain::answered(vaskunoor::check_tables(request, assignment, &table[..size]));
 }
 
 // Writes the output of a job to the file that word i names, and says so; a refused job leaves the file as it was.
 fn keep(i: usize, area: &[u8], answer: Answer) {
-    let bytes = explain::written(answer);
+    let bytes = tool_explain::written(answer);
     let size = io::count(bytes, area);
     if bytes >= 0 && !files::save(i, &area[..size]) {
         return;
     }
-    explain::answered(answer);
+    tool_explain::answered(answer);
 }

@@ -21,16 +21,16 @@ use Rattle.model.proofs.Searching.{given-fits, reply-slots}
 use Rattle.model.proofs.Writes.{assignment-length}
 use Rattle.model.proofs.Files.{short-none}
 use Rattle.model.proofs.Details.{details-fit}
-use Rattle.records.specs.declared.Ending.the-variants.{Whole, Stopped}
-use Rattle.mask.specs.Bits.{offsets}
-use Rattle.search.specs.Code.{Replies}
-use Rattle.search.specs.declared.Allotted.{Allotted}
-use Rattle.search.specs.declared.Allotted.the-variants.{Done as DoneReply, Full as FullReply, Unfinished as UnfinishedReply}
-use Rattle.writer.specs.Files.{AssignmentFits, Assigns, WroteAssignment, Wrote}
-use Rattle.writer.proofs.Files.{assignment-size}
-use Rattle.loading.specs.Loaded.{Holds, Loads}
-use Rattle.loading.specs.declared.Plan.{Plan}
-use Rattle.loading.proofs.Loading.{request-stops}
+use Rattle.file_records.specs.declared.Ending.the-variants.{Whole, Stopped}
+use Rattle.num_mask.specs.Bits.{offsets}
+use Rattle.slot_search.specs.Code.{Replies}
+use Rattle.slot_search.specs.declared.Allotted.{Allotted}
+use Rattle.slot_search.specs.declared.Allotted.the-variants.{Done as DoneReply, Full as FullReply, Unfinished as UnfinishedReply}
+use Rattle.file_writer.specs.Files.{AssignmentFits, Assigns, WroteAssignment, Wrote}
+use Rattle.file_writer.proofs.Files.{assignment-size}
+use Rattle.plan_load.specs.Loaded.{Holds, Loads}
+use Rattle.plan_load.specs.declared.Plan.{Plan}
+use Rattle.plan_load.proofs.Loading.{request-stops}
 
 -- ---- the reply behind the code's
 

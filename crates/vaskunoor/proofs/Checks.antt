@@ -6,9 +6,9 @@ use Rattle.model.specs.Tests.{orElse}
 use Rattle.model.specs.Jobs.{Contract, check, checkAssignment}
 use Rattle.model.specs.declared.Answer.{Answer}
 use Rattle.model.specs.declared.Answer.the-variants.{Done}
-use Rattle.jobs.specs.Checked.{refusalOf, Checks}
-use Rattle.jobs.specs.declared.Refusal.the-variants.{Nothing, Told}
-use Rattle.jobs.specs.declared.Checked.{Checked}
+use Rattle.call_checks.specs.Checked.{refusalOf, Checks}
+use Rattle.call_checks.specs.declared.Refusal.the-variants.{Nothing, Told}
+use Rattle.call_checks.specs.declared.Checked.{Checked}
 
 -- ---- the answer of the call
 

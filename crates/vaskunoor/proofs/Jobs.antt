@@ -8,10 +8,10 @@ use Rattle.model.specs.Jobs.{Contract, read, readRequest}
 use Rattle.model.specs.declared.Fault.{Fault}
 use Rattle.model.specs.declared.Answer.{Answer}
 use Rattle.model.specs.declared.Answer.the-variants.{Done, Damaged}
-use Rattle.records.specs.declared.Ending.the-variants.{Whole, Stopped}
-use Rattle.reader.specs.Parts.{planOf}
-use Rattle.reader.specs.declared.Plan.{Plan}
-use Rattle.reader.proofs.Parts.{reads-of, fault-of, byte-fits}
+use Rattle.file_records.specs.declared.Ending.the-variants.{Whole, Stopped}
+use Rattle.file_request.specs.Parts.{planOf}
+use Rattle.file_request.specs.declared.Plan.{Plan}
+use Rattle.file_request.proofs.Parts.{reads-of, fault-of, byte-fits}
 
 -- ---- reading a request
 

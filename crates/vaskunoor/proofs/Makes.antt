@@ -18,12 +18,12 @@ use Rattle.model.specs.Jobs.{Contract, make, Result, writes, unless, makeTables
 use Rattle.model.specs.declared.Answer.{Answer}
 use Rattle.model.specs.declared.Answer.the-variants.{Made, Short}
 use Rattle.model.proofs.Details.{details-fit}
-use Rattle.writer.specs.Files.{Wrote}
-use Rattle.maker.specs.Files.{CountsFit, TableFits, tableSize, WroteTable}
-use Rattle.maker.proofs.Tables.{rows-fit, table-size}
-use Rattle.jobs.specs.Checked.{refusalOf, refusing, Checks}
-use Rattle.jobs.specs.declared.Refusal.the-variants.{Nothing, Told}
-use Rattle.jobs.specs.declared.Checked.{Checked}
+use Rattle.file_writer.specs.Files.{Wrote}
+use Rattle.line_maker.specs.Files.{CountsFit, TableFits, tableSize, WroteTable}
+use Rattle.line_maker.proofs.Tables.{rows-fit, table-size}
+use Rattle.call_checks.specs.Checked.{refusalOf, refusing, Checks}
+use Rattle.call_checks.specs.declared.Refusal.the-variants.{Nothing, Told}
+use Rattle.call_checks.specs.declared.Checked.{Checked}
 
 -- ---- the job, by what speaks against it and by the room that there is
 

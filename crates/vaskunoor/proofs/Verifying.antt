@@ -12,17 +12,17 @@ use Rattle.model.specs.declared.Fault.{Fault}
 use Rattle.model.specs.declared.Answer.{Answer}
 use Rattle.model.specs.declared.Answer.the-variants.{Damaged}
 use Rattle.model.proofs.Readers.{table-byte-fits}
-use Rattle.records.specs.declared.Ending.the-variants.{Whole, Stopped}
-use Rattle.records.proofs.Endings.{ends-whole}
-use Rattle.lined.specs.Parts.{linedOf}
-use Rattle.lined.specs.declared.Lined.{Lined}
-use Rattle.lined.proofs.Parts.{whole-is, stopped-is, lines-are}
-use Rattle.plans.specs.Rows.{usesMost}
-use Rattle.loading.specs.Loaded.{Holds, Loads, LoadsOffsets, Numbers}
-use Rattle.jobs.specs.Checked.{AllRead}
-use Rattle.loading.specs.declared.Plan.{Plan}
-use Rattle.loading.specs.declared.Offsets.{Offsets}
-use Rattle.loading.proofs.Loading.{request-stops, stands-of, numbers-of, assignment-stops}
+use Rattle.file_records.specs.declared.Ending.the-variants.{Whole, Stopped}
+use Rattle.file_records.proofs.Endings.{ends-whole}
+use Rattle.file_table.specs.Parts.{linedOf}
+use Rattle.file_table.specs.declared.Lined.{Lined}
+use Rattle.file_table.proofs.Parts.{whole-is, stopped-is, lines-are}
+use Rattle.plan.specs.Rows.{usesMost}
+use Rattle.plan_load.specs.Loaded.{Holds, Loads, LoadsOffsets, Numbers}
+use Rattle.call_checks.specs.Checked.{AllRead}
+use Rattle.plan_load.specs.declared.Plan.{Plan}
+use Rattle.plan_load.specs.declared.Offsets.{Offsets}
+use Rattle.plan_load.proofs.Loading.{request-stops, stands-of, numbers-of, assignment-stops}
 
 -- ---- the request: p is what was loaded of it
 

@@ -2,24 +2,24 @@
 // one answer and one list of output bytes for every input. Assumes nothing.
 ghost use mathlib.Core.List.{[]};
 ghost use Rattle.model.specs.Jobs.{Contract, read, allot, check, make, verify};
-use jobs::Refusal;
+use call_checks::Refusal;
+use file_records::Ending;
 use model::ASSIGNMENT_FILE;
 use model::Answer;
 use model::CIRCUITS_MOST;
 use model::REQUEST_FILE;
 use model::TABLE_FILE;
-use records::Ending;
-use search::Allotted;
+use slot_search::Allotted;
 
 // Reads a request.
 pub fn read_request(request: &[u8]) -> Answer
     ensures { λ r. ⌜ Contract (read (now (request .entry))) r [] ⌝ }
 {
-    let plan = reader::read(request);
+    let plan = file_request::read(request);
     let ending = plan.ending;
     match ending {
         Ending::Whole => Answer::Done,
-        Ending::Stopped(fault, byte) => loading::fault_answer(REQUEST_FILE, fault, byte),
+        Ending::Stopped(fault, byte) => plan_load::fault_answer(REQUEST_FILE, fault, byte),
     }
 }
 
@@ -28,12 +28,12 @@ pub fn read_request(request: &[u8]) -> Answer
 pub fn allocate(request: &[u8], budget: u32, assignment: &mut [u8]) -> Answer
     ensures { λ r. ⌜ Contract (allot (now (request .entry)) budget (now (assignment .entry))) r (now (assignment .exit)) ⌝ }
 {
-    let plan = loading::load(request);
+    let plan = plan_load::load(request);
     let ending = plan.ending;
     if let Ending::Stopped(fault, byte) = ending {
-        return loading::fault_answer(REQUEST_FILE, fault, byte);
+        return plan_load::fault_answer(REQUEST_FILE, fault, byte);
     }
-    let needed = slots::assignment_size(request, plan);
+    let needed = slot_allot::assignment_size(request, plan);
     if assignment.len() < needed {
         return Answer::Short {
             bytes: needed as u32,
@@ -41,9 +41,9 @@ pub fn allocate(request: &[u8], budget: u32, assignment: &mut [u8]) -> Answer
     }
     let n = plan.circuits;
     let mut masks = [0u32; CIRCUITS_MOST];
-    match slots::search_slots(request, plan, budget, &mut masks) {
+    match slot_allot::search_slots(request, plan, budget, &mut masks) {
         Allotted::Done(visits) => {
-            let bytes = writer::write_assignment(n, &masks, assignment);
+            let bytes = file_writer::write_assignment(n, &masks, assignment);
             Answer::Allocated {
                 visits,
                 bytes: bytes as u32,
@@ -58,7 +58,7 @@ pub fn allocate(request: &[u8], budget: u32, assignment: &mut [u8]) -> Answer
 pub fn check_assignment(request: &[u8], assignment: &[u8]) -> Answer
     ensures { λ r. ⌜ Contract (check (now (request .entry)) (now (assignment .entry))) r [] ⌝ }
 {
-    let checked = jobs::check_both(request, assignment);
+    let checked = call_checks::check_both(request, assignment);
     let refusal = checked.refusal;
     match refusal {
         Refusal::Nothing => Answer::Done,
@@ -70,7 +70,7 @@ pub fn check_assignment(request: &[u8], assignment: &[u8]) -> Answer
 pub fn make_tables(request: &[u8], assignment: &[u8], table: &mut [u8]) -> Answer
     ensures { λ r. ⌜ Contract (make (now (request .entry)) (now (assignment .entry)) (now (table .entry))) r (now (table .exit)) ⌝ }
 {
-    let checked = jobs::check_both(request, assignment);
+    let checked = call_checks::check_both(request, assignment);
     let refusal = checked.refusal;
     if let Refusal::Told(answer) = refusal {
         return answer;
@@ -81,46 +81,44 @@ pub fn make_tables(request: &[u8], assignment: &[u8], table: &mut [u8]) -> Answe
     let whats = checked.whats;
     let afters = checked.afters;
     let masks = checked.masks;
-    let needed = maker::table_size(n, &counts, &masks);
+    let needed = line_maker::table_size(n, &counts, &masks);
     if table.len() < needed {
         return Answer::Short {
             bytes: needed as u32,
         };
     }
-    let wrote = maker::write_table(request, n, &cycles, &counts, &whats, &afters, &masks, table);
-    Answer::Made {
-        bytes: wrote as u32,
-    }
+    let put = line_maker::write_table(request, n, &cycles, &counts, &whats, &afters, &masks, table);
+    Answer::Made { bytes: put as u32 }
 }
 
 // Checks a table against the request and the assignment that it is for.
 pub fn check_tables(request: &[u8], assignment: &[u8], table: &[u8]) -> Answer
     ensures { λ r. ⌜ Contract (verify (now (request .entry)) (now (assignment .entry)) (now (table .entry))) r [] ⌝ }
 {
-    let plan = loading::load(request);
+    let plan = plan_load::load(request);
     let first = plan.ending;
     if let Ending::Stopped(fault, byte) = first {
-        return loading::fault_answer(REQUEST_FILE, fault, byte);
+        return plan_load::fault_answer(REQUEST_FILE, fault, byte);
     }
     let n = plan.circuits;
     let cycles = plan.cycles;
     let demands = plan.demands;
-    let booked = loading::load_offsets(request, n, &cycles, &demands, assignment);
+    let booked = plan_load::load_offsets(request, n, &cycles, &demands, assignment);
     let second = booked.ending;
     if let Ending::Stopped(fault, byte) = second {
-        return loading::fault_answer(ASSIGNMENT_FILE, fault, byte);
+        return plan_load::fault_answer(ASSIGNMENT_FILE, fault, byte);
     }
-    let lined = lined::read(request, table);
+    let lined = file_table::read(request, table);
     let third = lined.ending;
     if let Ending::Stopped(fault, byte) = third {
-        return loading::fault_answer(TABLE_FILE, fault, byte);
+        return plan_load::fault_answer(TABLE_FILE, fault, byte);
     }
     let counts = plan.counts;
     let whats = plan.whats;
     let afters = plan.afters;
     let masks = booked.masks;
     let lines = lined.lines;
-    jobs::behind_files(
+    call_checks::behind_files(
         request,
         assignment,
         table,

@@ -88,7 +88,7 @@ fn one_circuit(cycle: u8) -> [u8; 24] {
 
 // Writes the name of a case and what was answered.
 fn show(name: &[u8], answer: Answer) {
-    let told = answers::hand_out(answer);
+    let told = call_answer::hand_out(answer);
     io::write_all(STDOUT_FILENO, name);
     io::write_all(STDOUT_FILENO, b":");
     show_number(told.number);

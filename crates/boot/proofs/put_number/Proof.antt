@@ -3,7 +3,7 @@ use borrow.Author.Needs.{needs}
 use native.Mathlib.Omega.{arith}
 use native.Mathlib.Numerals.{towards-suc}
 use lib.ListN.{length-set}
-use Rattle.writer.proofs.Pastes.{pasted-sets}
+use Rattle.file_writer.proofs.Pastes.{pasted-sets}
 use Rattle.boot.specs.Face.{long}
 use Rattle.boot.proofs.put_number.Statement.{statement}
 use Rattle.boot.proofs.put_number.Tie as tie

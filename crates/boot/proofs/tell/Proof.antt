@@ -5,7 +5,7 @@ use Rattle.boot.proofs.tell.Statement.{statement}
 use Rattle.boot.proofs.tell.Tie as tie
 use Rattle.boot.proofs.tell.Reads as reads
 use Rattle.boot.proofs.tell.Lts as lts
-use Rattle.answers.proofs.hand_out.Reads as hand-out-reads
+use Rattle.call_answer.proofs.hand_out.Reads as hand-out-reads
 use Rattle.boot.proofs.put_number.Reads as put-number-reads
 
 hand-out-requires : tie.Need-hand-out-requires

@@ -5,7 +5,7 @@ use Rattle.vaskunoor.proofs.check_assignment.Statement.{statement}
 use Rattle.vaskunoor.proofs.check_assignment.Tie as tie
 use Rattle.vaskunoor.proofs.check_assignment.Reads as reads
 use Rattle.vaskunoor.proofs.check_assignment.Lts as lts
-use Rattle.jobs.proofs.check_both.Reads as check-both-reads
+use Rattle.call_checks.proofs.check_both.Reads as check-both-reads
 
 check-both-requires : tie.Need-check-both-requires
 check-both-requires c κs = search needs

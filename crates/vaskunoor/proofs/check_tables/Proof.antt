@@ -1,16 +1,16 @@
 -- `vaskunoor::check_tables` meets its contract. Assumes nothing.
 use borrow.Author.Needs.{needs}
-use Rattle.loading.proofs.Loading.{request-byte, assignment-byte}
+use Rattle.plan_load.proofs.Loading.{request-byte, assignment-byte}
 use Rattle.vaskunoor.proofs.Verifying.{request-damaged, numbers-here, assignment-damaged, table-byte, table-damaged, cycles-many, counts-many, whats-many, afters-many, all-read}
 use Rattle.vaskunoor.proofs.check_tables.Statement.{statement}
 use Rattle.vaskunoor.proofs.check_tables.Tie as tie
 use Rattle.vaskunoor.proofs.check_tables.Reads as reads
 use Rattle.vaskunoor.proofs.check_tables.Lts as lts
-use Rattle.lined.proofs.read.Reads as read-reads
-use Rattle.jobs.proofs.behind_files.Reads as behind-files-reads
-use Rattle.loading.proofs.fault_answer.Reads as fault-answer-reads
-use Rattle.loading.proofs.load.Reads as load-reads
-use Rattle.loading.proofs.load_offsets.Reads as load-offsets-reads
+use Rattle.file_table.proofs.read.Reads as read-reads
+use Rattle.call_checks.proofs.behind_files.Reads as behind-files-reads
+use Rattle.plan_load.proofs.fault_answer.Reads as fault-answer-reads
+use Rattle.plan_load.proofs.load.Reads as load-reads
+use Rattle.plan_load.proofs.load_offsets.Reads as load-offsets-reads
 
 load-requires : tie.Need-load-requires
 load-requires c κs = search needs

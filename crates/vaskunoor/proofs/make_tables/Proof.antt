@@ -5,9 +5,9 @@ use Rattle.vaskunoor.proofs.make_tables.Statement.{statement}
 use Rattle.vaskunoor.proofs.make_tables.Tie as tie
 use Rattle.vaskunoor.proofs.make_tables.Reads as reads
 use Rattle.vaskunoor.proofs.make_tables.Lts as lts
-use Rattle.maker.proofs.table_size.Reads as table-size-reads
-use Rattle.maker.proofs.write_table.Reads as write-table-reads
-use Rattle.jobs.proofs.check_both.Reads as check-both-reads
+use Rattle.line_maker.proofs.table_size.Reads as table-size-reads
+use Rattle.line_maker.proofs.write_table.Reads as write-table-reads
+use Rattle.call_checks.proofs.check_both.Reads as check-both-reads
 
 check-both-requires : tie.Need-check-both-requires
 check-both-requires c κs = search needs

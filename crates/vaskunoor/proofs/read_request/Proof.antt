@@ -5,8 +5,8 @@ use Rattle.vaskunoor.proofs.read_request.Statement.{statement}
 use Rattle.vaskunoor.proofs.read_request.Tie as tie
 use Rattle.vaskunoor.proofs.read_request.Reads as reads
 use Rattle.vaskunoor.proofs.read_request.Lts as lts
-use Rattle.loading.proofs.fault_answer.Reads as fault-answer-reads
-use Rattle.reader.proofs.read.Reads as read-reads
+use Rattle.plan_load.proofs.fault_answer.Reads as fault-answer-reads
+use Rattle.file_request.proofs.read.Reads as read-reads
 
 read-requires : tie.Need-read-requires
 read-requires c κs = search needs

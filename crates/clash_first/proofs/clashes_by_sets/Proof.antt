@@ -1,0 +1,23 @@
+-- `clash_first::clashes_by_sets` meets its contract. Assumes nothing.
+use mathlib.Core.Path.{sym}
+use borrow.Author.Needs.{needs}
+use Rattle.clash_first.proofs.Sets.{apart-never}
+use Rattle.clash_first.proofs.clashes_by_sets.Statement.{statement}
+use Rattle.clash_first.proofs.clashes_by_sets.Tie as tie
+
+apart-requires : tie.Need-apart-requires
+apart-requires c κs = search needs
+
+returns : tie.Need-returns
+returns c =
+    let known = c .before .before .before .before .before .before .before .pre .1 in
+    sym (apart-never _ _ _ _ _ _ _ _ (known .0) (known .1 .0) (known .1 .1 .0) (known .1 .1 .1) (c .before .apart .ensures (c .if1 .taken)))
+
+pair-clashes-requires : tie.Need-pair-clashes-requires
+pair-clashes-requires c κs = search needs
+
+returns-2 : tie.Need-returns-2
+returns-2 c = search needs
+
+pub clashes-by-sets-spec : {M : Type 1} → statement M
+clashes-by-sets-spec = tie.close (tie.spec apart-requires returns pair-clashes-requires returns-2)

@@ -1,0 +1,93 @@
+-- The lines that meet a series, over the bytes of a table file: which they are, and what is told of the series. Assumes nothing: these are definitions.
+use Prim.Native.Nat.{ℕ, _+_, _%_, _≤_, _<_}
+use mathlib.Core.Path.{_≡_}
+use mathlib.Core.Bool.{Bool, true, cond}
+use mathlib.Core.List.{List}
+use mathlib.Core.Option.{Option, none, some}
+use lib.Dec.{ltb, eqb}
+use Rattle.model.specs.Sizes.{linesMost, cycleMost}
+use Rattle.model.specs.Divisor.{gcd}
+use Rattle.model.specs.Tests.{_and_, neg, least}
+use Rattle.model.specs.declared.Answer.{Answer}
+use Rattle.model.specs.declared.Answer.the-variants.{Unserved as UnservedAnswer, Partly as PartlyAnswer, Twice as TwiceAnswer, Astray as AstrayAnswer}
+use Rattle.num_divisor.specs.Common.{Cycle}
+use Rattle.num_mask.specs.Bits.{bit}
+use Rattle.line_chains.specs.Chains.{lineIn, has}
+use Rattle.line_series.specs.declared.Met.{Met}
+use Rattle.line_series.specs.declared.Judged.{Judged}
+use Rattle.line_series.specs.declared.Judged.the-variants.{Fine, Unserved, Partly, Twice, Astray}
+
+-- ---- the first line that is wanted, of those passed
+
+-- the first number below m that passes; and n where there is none
+unfoldable pub seen : ℕ → (ℕ → Bool) → ℕ → ℕ
+seen n p m = cond (ltb (least m p) m) (least m p) n
+
+-- the first that passes, where `before` is the first of those before m, and n where there is none
+abbrev pub noted : (n before m : ℕ) → Bool → ℕ
+noted n before m passes = cond passes (cond (ltb before n) before m) before
+
+-- ---- lines held against a series
+
+-- what is asked of line m to hold it against a series
+pub record Held (t : List ℕ) (m cycle : ℕ) : Type 0 where
+  pub few : m < linesMost
+  pub cycle-good : Cycle cycle
+  pub period-good : Cycle (lineIn t m .period)
+  pub slot-good : lineIn t m .slot < lineIn t m .period
+
+module _ (t : List ℕ) where
+  -- some slot of the series matches line m; and every slot does
+  unfoldable pub agreesOf : (cycle start m : ℕ) → Bool
+  agreesOf cycle start m = let g = gcd cycle (lineIn t m .period) in eqb (start % g) (lineIn t m .slot % g)
+
+  unfoldable pub coversOf : (cycle start m : ℕ) → Bool
+  coversOf cycle start m = eqb (cycle % lineIn t m .period) 0 and eqb (start % lineIn t m .period) (lineIn t m .slot)
+
+  -- line m meets the series at this port; it does without serving it whole; it does behind the first that does
+  unfoldable pub meetsAt : (port cycle start m : ℕ) → Bool
+  meetsAt port cycle start m = has t port m and agreesOf cycle start m
+
+  unfoldable pub partAt : (port cycle start m : ℕ) → Bool
+  partAt port cycle start m = meetsAt port cycle start m and neg (coversOf cycle start m)
+
+  module _ (lines port cycle start : ℕ) where
+    unfoldable pub oneOf : ℕ
+    oneOf = least lines (meetsAt port cycle start)
+
+    unfoldable pub againAt : ℕ → Bool
+    againAt m = ltb oneOf m and meetsAt port cycle start m
+
+    -- the first of each, `lines` where there is none
+    unfoldable pub metBy : Met
+    metBy = record { one = oneOf; part = least lines (partAt port cycle start); two = least lines againAt }
+
+-- the tests 13, 14, 15, 16 in order, where line `one` leads to `led`
+abbrev pub judgedBy : (lines : ℕ) → Met → (led out : ℕ) → Judged
+judgedBy lines met led out =
+    cond (ltb (met .one) lines)
+    (cond (ltb (met .part) lines) (Partly (met .part))
+    (cond (ltb (met .two) lines) (Twice (met .two))
+    (cond (eqb led out) Fine (Astray (met .one)))))
+    Unserved
+
+unfoldable pub judgedOf : (t : List ℕ) (lines port cycle start out : ℕ) → Judged
+judgedOf t lines port cycle start out =
+    let met = metBy t lines port cycle start in
+    judgedBy lines met (lineIn t (met .one) .out) out
+
+-- as the answer of series c, a, j
+abbrev pub judgedAnswer : (c a j : ℕ) → Judged → Option Answer
+judgedAnswer c a j Fine = none
+judgedAnswer c a j Unserved = some (UnservedAnswer c a j)
+judgedAnswer c a j (Partly m) = some (PartlyAnswer c a j m)
+judgedAnswer c a j (Twice m) = some (TwiceAnswer c a j m)
+judgedAnswer c a j (Astray m) = some (AstrayAnswer c a j m)
+
+-- x has the offsets of a mask modulo g, where g is not 0
+pub record Folds (mask g x : ℕ) : Type 0 where
+  pub has-all : 1 ≤ g → (a : ℕ) → a < cycleMost → bit mask a ≡ true → bit x (a % g) ≡ true
+
+-- no series of the offsets of a mask has a fault, where it comes to the port so long after its offset
+pub record AllServed (t : List ℕ) (lines port cycle after out mask : ℕ) : Type 0 where
+  pub each : (a : ℕ) → bit mask a ≡ true → judgedOf t lines port cycle (a + after) out ≡ Fine

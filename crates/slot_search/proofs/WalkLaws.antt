@@ -1,0 +1,94 @@
+-- Laws of the search's definition, as the code's proofs use them: what the earlier circuits shut, and the walk one step at a time. Assumes nothing.
+use mathlib.Core.Path.{_≡_, refl, sym, ap, _∙_, fun-ext}
+use mathlib.Core.Bool.{Bool, false, _||_, or-assoc, or-false}
+use mathlib.Core.List.{List, [], _∷_, _++_, map}
+use Prim.Native.Nat.{ℕ, suc, _+_, _-_, _≤_, _<_}
+use native.Mathlib.Nat.{sub-zero}
+use native.Mathlib.Numerals.{add-one}
+use native.Mathlib.Omega.{arith}
+use lib.ListN.{length, getD, take, drop, length-take, drop-of-length-le}
+use lib.Seq.{drop-cons, getD-take}
+use lib.Dec.{leb, ltb}
+use lib.Bits.{bitOr}
+use Rattle.model.specs.Tests.{_and_, neg, any}
+use Rattle.model.specs.Network.{Circuit, noCircuit}
+use Rattle.model.specs.Search.{Walk, found, barred, cells, choice, thenTry, search}
+use Rattle.model.proofs.Tests.{length-upTo, getD-upTo}
+use Rattle.num_mask.specs.Bits.{bit, offsets}
+use Rattle.num_mask.proofs.Laws.{bit-or, offsets-zero}
+use Rattle.slot_search.specs.Code.{circuitIn, circuits, entries, clashIn, gathered, fromCircuit, fromCell}
+
+-- ---- what the earlier circuits shut
+
+gathered-bit : (table : List ℕ) (base x i : ℕ) (l : List ℕ) → bit (gathered table base x l) i ≡ (bit x i || any (λ a. bit (getD table (base + a) 0) i) l)
+unfolding gathered any
+gathered-bit table base x i [] = sym (or-false (bit x i))
+gathered-bit table base x i (a ∷ more) =
+    gathered-bit table base (bitOr x (getD table (base + a) 0)) i more
+    ∙ ap (λ (b : Bool). b || any (λ a. bit (getD table (base + a) 0) i) more) (bit-or x (getD table (base + a) 0) i)
+    ∙ or-assoc (bit x i) (bit (getD table (base + a) 0) i) (any (λ a. bit (getD table (base + a) 0) i) more)
+
+-- the share of circuit e goes over to what is joined already
+pub shut-step : (table taken : List ℕ) (c e i acc : ℕ) → e < c → c ≤ length taken
+    → (bit (gathered table (entries c e) acc (offsets (getD taken e 0))) i || barred (clashIn table) c i (e + 1) (map offsets (drop (e + 1) (take c taken))))
+    ≡ (bit acc i || barred (clashIn table) c i e (map offsets (drop e (take c taken))))
+unfolding barred clashIn
+shut-step table taken c e i acc l h =
+    let inside : e < length (take c taken) = rw length-take (omega arith) in
+    let same : getD (take c taken) e 0 ≡ getD taken e 0 = getD-take c taken e 0 l in
+    rw (drop-cons (take c taken) e 0 inside, same, add-one e, gathered-bit table (entries c e) acc i (offsets (getD taken e 0)))
+    (or-assoc (bit acc i) (any (clashIn table c i e) (offsets (getD taken e 0))) (barred (clashIn table) c i (suc e) (map offsets (drop (suc e) (take c taken)))))
+
+pub shut-done : (table taken : List ℕ) (c e i : ℕ) → c ≤ e → barred (clashIn table) c i e (map offsets (drop e (take c taken))) ≡ false
+unfolding barred
+shut-done table taken c e i h =
+    let past : length (take c taken) ≤ e = rw length-take (omega arith) in
+    rw (drop-of-length-le (take c taken) past) refl
+
+-- ---- the walk
+
+module _ (table cycles demands : List ℕ) (c : ℕ) (earlier : List (List ℕ)) where
+  pub circuit-end : c ≡ length cycles → fromCircuit table cycles demands c earlier ≡ found 0 earlier
+  unfolding fromCircuit circuits search
+  circuit-end l =
+      let past : length (circuits cycles demands) ≤ c = omega (arith, length-upTo (length cycles) (circuitIn cycles demands)) in
+      rw (drop-of-length-le (circuits cycles demands) past) refl
+
+  -- circuit c, and the others behind it
+  first : c < length cycles → drop c (circuits cycles demands) ≡ circuitIn cycles demands c ∷ drop (suc c) (circuits cycles demands)
+  unfolding circuits
+  first l =
+      let inside : c < length (circuits cycles demands) = omega (arith, length-upTo (length cycles) (circuitIn cycles demands)) in
+      drop-cons (circuits cycles demands) c noCircuit inside
+      ∙ ap (λ (x : Circuit). x ∷ drop (suc c) (circuits cycles demands)) (getD-upTo (length cycles) (circuitIn cycles demands) c noCircuit l)
+
+  pub circuit-enter : (shut : ℕ) → c < length cycles → length earlier ≡ c
+      → ((i : ℕ) → bit shut i ≡ barred (clashIn table) c i 0 earlier)
+      → fromCircuit table cycles demands c earlier ≡ fromCell table cycles demands c shut earlier (getD cycles c 0 - 0) 0 (offsets 0)
+  unfolding fromCircuit fromCell search
+  circuit-enter shut l q h =
+      let free : _≡_ {A = ℕ → Bool} (λ i. neg (barred (clashIn table) (length earlier) i 0 earlier)) (λ i. neg (bit shut i)) =
+      fun-ext (λ i. ap neg (ap (λ (k : ℕ). barred (clashIn table) k i 0 earlier) q ∙ sym (h i))) in
+      rw (first l, free, sub-zero (getD cycles c 0), offsets-zero, add-one c) refl
+
+  pub cell-end : (shut d a : ℕ) (taken : List ℕ) → a ≡ d
+      → fromCell table cycles demands c shut earlier (d - a) a taken ≡ fromCircuit table cycles demands (c + 1) (earlier ++ (taken ∷ []))
+  unfolding fromCell cells
+  cell-end shut d a taken e =
+      let none : d - a ≡ 0 = omega arith in
+      rw none refl
+
+  -- the walk where cell a is taken, and where it is skipped, with `left` cells behind it
+  module _ (shut left a : ℕ) (taken : List ℕ) where
+    unfoldable pub fromTake : Walk
+    fromTake = choice (ltb (length taken) (getD demands c 0) and neg (bit shut a)) (fromCell table cycles demands c shut earlier left (a + 1) (taken ++ (a ∷ [])))
+
+    unfoldable pub fromSkip : Walk
+    fromSkip = choice (leb (getD demands c 0) (length taken + left)) (fromCell table cycles demands c shut earlier left (a + 1) taken)
+
+  pub cell-split : (shut d a : ℕ) (taken : List ℕ) → a < d
+      → fromCell table cycles demands c shut earlier (d - a) a taken ≡ thenTry (fromTake shut (d - (a + 1)) a taken) (fromSkip shut (d - (a + 1)) a taken)
+  unfolding fromCell fromTake fromSkip cells
+  cell-split shut d a taken l =
+      let more : d - a ≡ suc (d - (a + 1)) = omega arith in
+      rw (more, add-one a) refl
