@@ -1,6 +1,6 @@
 -- Where a plan first clashes: what loops over pairs, slots and resources have passed. Assumes nothing.
-use Prim.Native.Nat.{ℕ, zero, _+_, _*_, _^_, _≤_, _<_}
-use mathlib.Core.Path.{_≡_, refl, sym, _∙_}
+use Prim.Native.Nat.{ℕ, zero, _+_, _*_, _≤_, _<_}
+use mathlib.Core.Path.{_≡_, refl, sym, ap₂, _∙_}
 use mathlib.Core.Logic.{_⊎_, inl, inr, _≢_}
 use mathlib.Core.Bool.{Bool, true, false}
 use mathlib.Core.List.{List}
@@ -8,7 +8,7 @@ use mathlib.Core.Option.{none, some}
 use native.Mathlib.Nat.{mul-le-mul}
 use native.Mathlib.Omega.{arith}
 use native.Mathlib.Decide.{decLt}
-use lib.ListN.{length, getD}
+use lib.ListN.{length}
 use lib.Dec.{T}
 use Rattle.model.specs.Sizes.{cycleMost, resourcesMost}
 use Rattle.model.specs.Tests.{_∈_}
@@ -20,11 +20,9 @@ use Rattle.model.proofs.Divisor.{wrap}
 use Rattle.model.proofs.Clashing.{holds→, →holds, →clashes, turned, Holds-at}
 use Rattle.model.proofs.Sound.{uses-small}
 use Rattle.model.proofs.Checking.{clash-none, clash-first}
-use Rattle.num_divisor.specs.Common.{Cycle}
-use Rattle.plan.specs.Rows.{RowsAndMasks}
-use Rattle.clash_pair.specs.Bookings.{Known, bookingAt, bookedAt}
-use Rattle.clash_pair.proofs.Booked.{booking-planned, low-planned}
-use Rattle.clash_first.specs.Held.{BothIs}
+use Rattle.plan.specs.Plan.{circuitsIn, cycleIn, bookingIn, Booked, Fit}
+use Rattle.plan.proofs.Laws.{booking-is}
+use Rattle.clash_first.specs.Held.{SlotsOf}
 
 -- ---- two circuits
 
@@ -95,26 +93,23 @@ module _ {p q : Booking} where
           lowest = λ v k l r. never (cw .none v k) l r;
         }
 
--- ---- two circuits of the rows
+-- ---- two circuits of a plan
 
-module _ (cycles counts whats afters : List ℕ) (c e mc me : ℕ) where
-  abbrev P : Booking
-  P = bookingAt cycles counts whats afters c mc
+module _ (p m : List ℕ) (c e : ℕ) (fit-c : Fit p c) (fit-e : Fit p e) where
+  pub plan-skip : clashes? (bookingIn p m c) (bookingIn p m e) ≡ false → ClearPair (bookingIn p m c) (bookingIn p m e)
+  unfolding bookingIn
+  plan-skip f = pair-skip {p = bookingIn p m c} {q = bookingIn p m e} (fit-c .cycle .low) (fit-e .cycle .low) f
 
-  abbrev Q : Booking
-  Q = bookingAt cycles counts whats afters e me
-
-  pub rows-skip : Known cycles counts c → Known cycles counts e → clashes? P Q ≡ false → ClearPair P Q
-  unfolding bookingAt
-  rows-skip kc ke f = pair-skip {p = P} {q = Q} (kc .cycle .low) (ke .cycle .low) f
-
-  pub rows-all : {t x : ℕ} → ClearSlots P Q t → x ≡ getD cycles c 0 * getD cycles e 0 → x ≤ t → ClearPair P Q
-  unfolding bookingAt
-  rows-all clear is all = slots-all {p = P} {q = Q} clear (rw is at all)
+  pub plan-all : {t x : ℕ} → ClearSlots (bookingIn p m c) (bookingIn p m e) t → SlotsOf p c e x → x ≤ t → ClearPair (bookingIn p m c) (bookingIn p m e)
+  unfolding bookingIn
+  plan-all clear is all = slots-all {p = bookingIn p m c} {q = bookingIn p m e} clear (rw (is .is) at all)
 
 -- their product is small
-pub slots-few : {x y : ℕ} → Cycle x → Cycle y → x * y ≤ cycleMost * cycleMost
-slots-few {x} {y} cx cy = mul-le-mul {n₁ = x} {m₁ = y} {n₂ = cycleMost} {m₂ = cycleMost} (cx .high) (cy .high)
+pub slots-are : {p : List ℕ} {c e x y : ℕ} → Fit p c → Fit p e → x ≡ cycleIn p c → y ≡ cycleIn p e → SlotsOf p c e (x * y)
+slots-are {p} {c} {e} {x} {y} fc fe is-x is-y = record {
+  is = ap₂ (λ a b. a * b) is-x is-y;
+  few = mul-le-mul {n₁ = x} {m₁ = y} {n₂ = cycleMost} {m₂ = cycleMost} (rw is-x (fc .cycle .high)) (rw is-y (fe .cycle .high));
+}
 
 -- ---- all pairs
 
@@ -148,43 +143,31 @@ module _ {b : ℕ → Booking} where
 
 -- ---- a plan
 
--- its offsets are below the cycles
-pub record Low (n : ℕ) (cycles masks : List ℕ) : Type 0 where
-  pub at : (c : ℕ) → c < n → getD masks c 0 < 2 ^ getD cycles c 0
+module _ {q : Request} {assigned : List (List ℕ)} {p m : List ℕ} (b : Booked q assigned p m) where
+  listed : {c : ℕ} → c < circuitsIn p → c < length (q .circuits)
+  listed h = rw (b .stands .many) at h
 
-module _ {q : Request} {assigned : List (List ℕ)} {n : ℕ} {cycles counts whats afters masks : List ℕ}
-    (p : RowsAndMasks q assigned n cycles counts whats afters masks) where
-  abbrev B : ℕ → Booking
-  B c = bookedAt cycles counts whats afters masks c
-
-  all-low : Low n cycles masks
-  all-low = record { at = λ c h. low-planned p h }
-
-  listed : {c : ℕ} → c < n → c < length (q .circuits)
-  listed h = rw (p .stands .many) h
-
-  positive : {c : ℕ} → c < n → zero < booking q assigned c .cycle
+  positive : {c : ℕ} → c < circuitsIn p → zero < booking q assigned c .cycle
   unfolding booking
-  positive {c} h = p .stands .sound .path c (listed h) .cycle
+  positive {c} h = b .stands .sound .path c (listed h) .cycle
 
-  small : {c : ℕ} → c < n → (u : Use) → u ∈ booking q assigned c .uses → u .what < resourcesMost
+  small : {c : ℕ} → c < circuitsIn p → (u : Use) → u ∈ booking q assigned c .uses → u .what < resourcesMost
   unfolding booking
-  small {c} h u m = uses-small q (p .stands .sound) c (listed h) u m
+  small {c} h u k = uses-small q (b .stands .sound) c (listed h) u k
 
   -- the pairs that were passed do not clash
-  apart : {c d : ℕ} → c < n → d < n → ClearPair (B c) (B d) → Clash (booking q assigned c) (booking q assigned d) → ⊥
-  apart hc hd clear = pair-apart (small hc) (positive hc) (positive hd) (rw (booking-planned p hc, booking-planned p hd) at clear)
+  apart : {c d : ℕ} → c < circuitsIn p → d < circuitsIn p → ClearPair (bookingIn p m c) (bookingIn p m d) → Clash (booking q assigned c) (booking q assigned d) → ⊥
+  apart hc hd clear = pair-apart (small hc) (positive hc) (positive hd) (rw (booking-is b hc, booking-is b hd) at clear)
 
-  pub nowhere : {i : ℕ} → (Low n cycles masks → ClearLower B n i) → n ≤ i → clashFault q assigned ≡ none
-  nowhere {i} clear all = clash-none q (p .stands .sound) assigned .1 (record { apart = λ c d hc hd ne. pick (rw (p .stands .many) at hc) (rw (p .stands .many) at hd) ne (decLt c d) })
+  pub nowhere : {n i : ℕ} → ClearLower (bookingIn p m) n i → n ≤ i → n ≡ circuitsIn p → none ≡ clashFault q assigned
+  nowhere {n} {i} lower all is = sym (clash-none q (b .stands .sound) assigned .1 (record {
+    apart = λ c d hc hd ne. pick (rw (b .stands .many) hc) (rw (b .stands .many) hd) ne (decLt c d);
+  }))
     where
-      lower : ClearLower B n i
-      lower = clear all-low
-
-      pick : {c d : ℕ} → c < n → d < n → c ≢ d → Dec (c < d) → Clash (booking q assigned c) (booking q assigned d) → ⊥
-      pick {c} {d} hc hd ne (yes k) cl = apart hc hd (lower .none c (omega arith) .none d k hd) cl
+      pick : {c d : ℕ} → c < circuitsIn p → d < circuitsIn p → c ≢ d → Dec (c < d) → Clash (booking q assigned c) (booking q assigned d) → ⊥
+      pick {c} {d} hc hd ne (yes k) cl = apart hc hd (lower .none c (omega arith) .none d k (omega arith)) cl
       pick {c} {d} hc hd ne (no k) cl =
-          apart hd hc (lower .none d (omega arith) .none c (less ne k) hc) (turned cl)
+          apart hd hc (lower .none d (omega arith) .none c (less ne k) (omega arith)) (turned cl)
         where
           less : c ≢ d → (c < d → ⊥) → d < c
           less ne k = pick′ (decLt d c)
@@ -193,26 +176,26 @@ module _ {q : Request} {assigned : List (List ℕ)} {n : ℕ} {cycles counts wha
               pick′ (yes l) = l
               pick′ (no l) = absurd (ne (omega arith))
 
-  pub somewhere : {i j t w : ℕ} → (Low n cycles masks → ClearLower B n i) → (Low n cycles masks → ClearHigher B i j) → (Low n cycles masks → ClearSlots (B i) (B j) t)
-      → (Low n cycles masks → ClearWhats (B i) (B j) t w) → i < j → j < n → {r : Bool} → BothIs cycles counts whats afters i j (getD masks i 0) (getD masks j 0) t w r → r ≡ true
-      → clashFault q assigned ≡ some (ClashAnswer i j t w)
-  somewhere {i} {j} {t} {w} ci cj ct cw order inside both e =
-      clash-first q (p .stands .sound) assigned i j t w .1 (record {
+  pub somewhere : {n i j t w : ℕ} {r : Bool} → ClearLower (bookingIn p m) n i → ClearHigher (bookingIn p m) i j → ClearSlots (bookingIn p m i) (bookingIn p m j) t
+      → ClearWhats (bookingIn p m i) (bookingIn p m j) t w → n ≡ circuitsIn p → i < j → j < n → r ≡ both? (bookingIn p m i) (bookingIn p m j) t w → r ≡ true
+      → some (ClashAnswer i j t w) ≡ clashFault q assigned
+  somewhere {n} {i} {j} {t} {w} ci cj ct cw is order below both e =
+      sym (clash-first q (b .stands .sound) assigned i j t w .1 (record {
         order = order;
-        listed = listed inside;
-        first = rw (booking-planned p hi, booking-planned p inside) at first;
-        sooner = λ c d k h x cl. sooner k (rw (p .stands .many) at h) x cl;
-      })
+        listed = listed hj;
+        first = rw (booking-is b hi, booking-is b hj) at first;
+        sooner = λ c d k h x cl. sooner k (rw (b .stands .many) h) x cl;
+      }))
     where
-      hi : i < n
+      hj : j < circuitsIn p
+      hj = omega arith
+
+      hi : i < circuitsIn p
       hi = omega arith
 
-      l : Low n cycles masks
-      l = all-low
+      first : FirstClash (bookingIn p m i) (bookingIn p m j) t w
+      first = pair-first (rw (booking-is b hi) (small hi)) ct cw (sym both ∙ e)
 
-      first : FirstClash (B i) (B j) t w
-      first = pair-first (rw (booking-planned p hi) (small hi)) (ct l) (cw l) (sym (both .is (l .at i hi) (l .at j inside)) ∙ e)
-
-      sooner : {c d : ℕ} → c < d → d < n → (c < i) ⊎ ((c ≡ i) × (d < j)) → Clash (booking q assigned c) (booking q assigned d) → ⊥
-      sooner {c} {d} k h (inl x) cl = apart (omega arith) h (ci l .none c x .none d k h) cl
-      sooner {c} {d} k h (inr x) cl = apart (omega arith) h (rw (x .0) (cj l .none d (rw (← x .0) k) (x .1))) cl
+      sooner : {c d : ℕ} → c < d → d < circuitsIn p → (c < i) ⊎ ((c ≡ i) × (d < j)) → Clash (booking q assigned c) (booking q assigned d) → ⊥
+      sooner {c} {d} k h (inl x) cl = apart (omega arith) h (ci .none c x .none d k (omega arith)) cl
+      sooner {c} {d} k h (inr x) cl = apart (omega arith) h (rw (x .0) (cj .none d (rw (← x .0) k) (x .1))) cl

@@ -1,5 +1,5 @@
 -- Which slots a circuit holds, by the bits of its mask, use by use. Assumes nothing.
-use Prim.Native.Nat.{ℕ, zero, _+_, _*_, _%_, _^_, _<_}
+use Prim.Native.Nat.{ℕ, zero, _+_, _%_, _^_, _<_}
 use mathlib.Core.Path.{_≡_, refl, sym, ap, _∙_}
 use mathlib.Core.Bool.{Bool, true, false, _||_}
 use mathlib.Core.List.{List}
@@ -8,9 +8,9 @@ use native.Mathlib.Omega.{arith}
 use borrow.Author.Tests.{eq-eqb, ne-eqb}
 use lib.ListN.{getD}
 use lib.Dec.{T, eqb, eqb→eq}
-use Rattle.model.specs.Tests.{_and_, any, _∈_}
+use Rattle.model.specs.Tests.{_and_, any, _∈_, upTo}
 use Rattle.model.specs.Network.{Use}
-use Rattle.model.specs.Holding.{Booking, Holds, holds?}
+use Rattle.model.specs.Holding.{Booking, Holds, holds?, both?}
 use Rattle.model.proofs.Tests.{T→eq, eq→T, and→, →and, any→, →any, eq→eqb, →upTo, bool-same}
 use Rattle.model.proofs.Divisor.{sub-cong}
 use Rattle.model.proofs.Clashing.{holds→, →holds}
@@ -18,13 +18,11 @@ use Rattle.model.proofs.Sound.{rises-in}
 use Rattle.num_divisor.specs.Common.{Cycle}
 use Rattle.num_mask.specs.Bits.{bit, offsets}
 use Rattle.num_mask.proofs.Laws.{offsets-in, offsets-below}
-use Rattle.plan.specs.Rows.{usesMost}
 use Rattle.num_cyclic.specs.Ahead.{ahead}
-use Rattle.clash_pair.specs.Differences.{useAt, usesAt}
-use Rattle.clash_pair.specs.Bookings.{Known, bookingAt}
+use Rattle.plan.specs.Plan.{cycleIn, useCount, whatIn, afterIn, useIn, bookingIn, Fit}
 use Rattle.num_cyclic.proofs.Ahead.{ahead-low, ahead-back}
 use Rattle.clash_pair.proofs.Marking.{any-zero, any-more}
-use Rattle.clash_first.specs.Held.{heldBy, HoldsIs, BothIs}
+use Rattle.clash_first.specs.Held.{heldBy}
 
 -- ---- an offset of the mask comes round in slot t exactly where the bit of the difference is set
 
@@ -66,56 +64,49 @@ held-is b m t w c low e = bool-same _ _ (λ h. →holds b t w (to (any→ _ (b .
 
 -- ---- use by use
 
-pub record NotHeld (whats afters : List ℕ) (first cycle m t w k : ℕ) : Type 0 where
-  pub none : heldBy cycle m t w (usesAt whats afters first k) ≡ false
+pub record NotHeld (p : List ℕ) (c cycle m t w k : ℕ) : Type 0 where
+  pub none : heldBy cycle m t w (upTo k (useIn p c)) ≡ false
 
-module _ {whats afters : List ℕ} {first cycle m t w : ℕ} where
-  pub held-none : NotHeld whats afters first cycle m t w 0
-  unfolding heldBy usesAt
+module _ {p : List ℕ} {c cycle m t w : ℕ} where
+  pub held-none : NotHeld p c cycle m t w 0
+  unfolding heldBy
   held-none = record { none = any-zero _ _ }
 
-  module _ {k : ℕ} (done : NotHeld whats afters first cycle m t w k) where
-    more : (eqb (getD whats (first + k) 0) w and bit m (ahead cycle t (getD afters (first + k) 0))) ≡ false → NotHeld whats afters first cycle m t w (k + 1)
-    unfolding heldBy usesAt useAt
-    more e = record { none = any-more _ k _ ∙ ap (λ z. z || (eqb (getD whats (first + k) 0) w and bit m (ahead cycle t (getD afters (first + k) 0)))) (done .none) ∙ e }
+  module _ {k x : ℕ} (done : NotHeld p c cycle m t w k) (is-x : x ≡ whatIn p c k) where
+    more : (eqb (whatIn p c k) w and bit m (ahead cycle t (afterIn p c k))) ≡ false → NotHeld p c cycle m t w (k + 1)
+    unfolding heldBy useIn
+    more e = record { none = any-more _ k _ ∙ ap (λ z. z || (eqb (whatIn p c k) w and bit m (ahead cycle t (afterIn p c k)))) (done .none) ∙ e }
 
-    pub held-other : (getD whats (first + k) 0 ≡ w → ⊥) → NotHeld whats afters first cycle m t w (k + 1)
+    pub held-other : (x ≡ w → ⊥) → NotHeld p c cycle m t w (k + 1)
     unfolding _and_
-    held-other ne = more (rw (ne-eqb (getD whats (first + k) 0) w ne) refl)
+    held-other ne = more (rw (ne-eqb (whatIn p c k) w (λ e. ne (is-x ∙ e))) refl)
 
-    pub held-miss : {a : ℕ} → getD whats (first + k) 0 ≡ w → a ≡ ahead cycle t (getD afters (first + k) 0) → bit m a ≡ false
-        → NotHeld whats afters first cycle m t w (k + 1)
+    pub held-miss : {y a : ℕ} → x ≡ w → y ≡ afterIn p c k → a ≡ ahead cycle t y → bit m a ≡ false → NotHeld p c cycle m t w (k + 1)
     unfolding _and_
-    held-miss e i f = more (rw (eq-eqb (getD whats (first + k) 0) w e, ← i, f) refl)
+    held-miss e is-y i f = more (rw (eq-eqb (whatIn p c k) w (sym is-x ∙ e), ← is-y, ← i, f) refl)
 
 -- ---- what it comes to
 
-module _ {cycles counts whats afters : List ℕ} {c m t w d : ℕ} (known : Known cycles counts c) (is-d : d ≡ getD cycles c 0) where
-  pub holds-true : {k a : ℕ} → k < getD counts c 0 → getD whats (c * usesMost + k) 0 ≡ w → a ≡ ahead d t (getD afters (c * usesMost + k) 0) → bit m a ≡ true
-      → HoldsIs cycles counts whats afters c m t w true
-  unfolding bookingAt heldBy usesAt useAt
-  holds-true {k} h e i f = record {
-    is = λ low.
-        sym (T→eq _ (→any (λ u. eqb (u .what) w and bit m (ahead (getD cycles c 0) t (u .after))) (→upTo (getD counts c 0) (λ k. useAt whats afters (c * usesMost + k)) k h)
-        (→and _ _ (eq→eqb e) (eq→T (ap (bit m) (ap (λ x. ahead x t (getD afters (c * usesMost + k) 0)) (sym is-d) ∙ sym i) ∙ f)))))
-        ∙ held-is (bookingAt cycles counts whats afters c m) m t w (known .cycle) low refl;
-  }
+module _ (p m : List ℕ) (c t w : ℕ) {d : ℕ} (fit : Fit p c) (low : getD m c 0 < 2 ^ cycleIn p c) (is-d : d ≡ cycleIn p c) where
+  pub holds-true : {k x y a : ℕ} → k < useCount p c → x ≡ whatIn p c k → x ≡ w → y ≡ afterIn p c k → a ≡ ahead d t y → bit (getD m c 0) a ≡ true
+      → true ≡ holds? (bookingIn p m c) t w
+  unfolding bookingIn heldBy useIn
+  holds-true {k} h is-x e is-y i f =
+      sym (T→eq _ (→any (λ u. eqb (u .what) w and bit (getD m c 0) (ahead (cycleIn p c) t (u .after))) (→upTo (useCount p c) (useIn p c) k h)
+      (→and _ _ (eq→eqb (sym is-x ∙ e)) (eq→T (ap (bit (getD m c 0)) (rw (← is-d, ← is-y) (sym i)) ∙ f)))))
+      ∙ held-is (bookingIn p m c) (getD m c 0) t w (fit .cycle) low refl
 
-  pub holds-false : {k : ℕ} → NotHeld whats afters (c * usesMost) d m t w k → k ≡ getD counts c 0 → HoldsIs cycles counts whats afters c m t w false
-  unfolding bookingAt
-  holds-false {k} n e = record {
-    is = λ low.
-        sym (rw (is-d, e) at (n .none)) ∙ held-is (bookingAt cycles counts whats afters c m) m t w (known .cycle) low refl;
-  }
+  pub holds-false : {k n : ℕ} → NotHeld p c d (getD m c 0) t w k → k ≡ n → n ≡ useCount p c → false ≡ holds? (bookingIn p m c) t w
+  unfolding bookingIn
+  holds-false n e f = sym (rw (is-d, e, f) at (n .none)) ∙ held-is (bookingIn p m c) (getD m c 0) t w (fit .cycle) low refl
 
 -- ---- two circuits
 
-module _ {cycles counts whats afters : List ℕ} {c e mc me t w : ℕ} where
-  pub both-not : {r : Bool} → HoldsIs cycles counts whats afters c mc t w r → r ≡ false → BothIs cycles counts whats afters c e mc me t w false
+module _ (p m : List ℕ) (c e t w : ℕ) {r : Bool} (h : r ≡ holds? (bookingIn p m c) t w) where
+  pub both-not : r ≡ false → false ≡ both? (bookingIn p m c) (bookingIn p m e) t w
   unfolding _and_
-  both-not h f = record { is = λ lc le. rw (sym (h .is lc) ∙ f) refl }
+  both-not f = rw (sym h ∙ f) refl
 
-  pub both-last : {r s : Bool} → HoldsIs cycles counts whats afters c mc t w r → r ≡ true → HoldsIs cycles counts whats afters e me t w s
-      → BothIs cycles counts whats afters c e mc me t w s
+  pub both-last : {s : Bool} → r ≡ true → s ≡ holds? (bookingIn p m e) t w → s ≡ both? (bookingIn p m c) (bookingIn p m e) t w
   unfolding _and_
-  both-last h f g = record { is = λ lc le. rw (sym (h .is lc) ∙ f) (g .is le) }
+  both-last f g = rw (sym h ∙ f) g

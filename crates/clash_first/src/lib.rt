@@ -1,158 +1,100 @@
 // Where a plan first clashes. Assumes nothing.
 ghost use mathlib.Core.Path.{_≡_};
-ghost use Prim.Native.Nat.{_*_, _<_};
-ghost use lib.ListN.{length, getD};
-ghost use Rattle.model.specs.Sizes.{circuitsMost};
-ghost use Rattle.model.specs.Holding.{clashes?};
-ghost use Rattle.num_divisor.specs.Common.{Cycle};
-ghost use Rattle.clash_pair.specs.Bookings.{Long, Known, Lent, bookingAt};
-ghost use Rattle.clash_first.specs.Held.{HoldsIs, BothIs};
-ghost use Rattle.clash_first.specs.Answers.{FirstIs};
-ghost use Rattle.clash_sets.specs.Sets.{SetOf};
-use clash_sets::SET_WORDS;
-use model::CIRCUITS_MOST;
+ghost use Prim.Native.Nat.{_^_, _<_};
+ghost use lib.ListN.{getD};
+ghost use Rattle.model.specs.Holding.{holds?, both?, clashes?};
+ghost use Rattle.plan.specs.Plan.{cycleIn, useCount, bookingIn, Fit, Slotted};
+ghost use Rattle.clash_sets.specs.Sets.{Collected};
+ghost use Rattle.clash_first.specs.Held.{SlotsOf, FirstIs};
+use clash_sets::SETS_SIZE;
+use clash_sets::Sets;
+use model::Answer;
 use model::RESOURCES_MOST;
-use model::USES_MOST;
-
-// Where a plan first clashes.
-pub enum Clash {
-    At {
-        lower: usize,
-        higher: usize,
-        slot: usize,
-        what: usize,
-    },
-    Nowhere,
-}
+use plan::Masks;
+use plan::Plan;
+use plan_refusal::Refusal;
 
 // ---- Slots.
 
-// Whether circuit c with the offsets m holds w in slot t.
-fn holds(
-    cycles: &[u32],
-    counts: &[usize],
-    whats: &[usize],
-    afters: &[usize],
-    c: usize,
-    m: u32,
-    t: usize,
-    w: usize,
-) -> bool
-    requires { ⌜ Long (now cycles) (now counts) (now whats) (now afters) ⌝ }
-    requires { ⌜ Known (now cycles) (now counts) c ⌝ }
-    ensures { λ r. ⌜ HoldsIs (now (cycles .entry)) (now (counts .entry)) (now (whats .entry)) (now (afters .entry)) c m t w r ⌝ }
+// Whether circuit c holds w in slot t.
+fn holds(p: &Plan, m: &Masks, c: usize, t: usize, w: usize) -> bool
+    requires { ⌜ Fit (now p) c ⌝ }
+    requires { ⌜ getD (now m) c 0 < 2 ^ cycleIn (now p) c ⌝ }
+    ensures { λ r. ⌜ r ≡ holds? (bookingIn (now (p .entry)) (now (m .entry)) c) t w ⌝ }
 {
-    let d = clash_pair::cycle_of(cycles, c);
-    let first = c * USES_MOST;
-    let count = counts[c];
+    let d = plan::cycle(p, c);
+    let count = plan::uses(p, c);
     for k in 0..count {
-        if whats[first + k] != w {
+        if plan::what(p, c, k) != w {
             continue;
         }
-        let a = num_cyclic::difference(d, t, afters[first + k]);
-        if num_mask::has(m, a as u32) {
+        let a = num_cyclic::difference(d, t, plan::after(p, c, k));
+        if num_mask::has(m[c], a as u32) {
             return true;
         }
     }
     false
 }
 
-// Whether circuits c and e, with the offsets mc and me, both hold w in slot t.
-fn both_hold(
-    cycles: &[u32],
-    counts: &[usize],
-    whats: &[usize],
-    afters: &[usize],
-    c: usize,
-    e: usize,
-    mc: u32,
-    me: u32,
-    t: usize,
-    w: usize,
-) -> bool
-    requires { ⌜ Long (now cycles) (now counts) (now whats) (now afters) ⌝ }
-    requires { ⌜ Known (now cycles) (now counts) c ⌝ }
-    requires { ⌜ Known (now cycles) (now counts) e ⌝ }
-    ensures { λ r. ⌜ BothIs (now (cycles .entry)) (now (counts .entry)) (now (whats .entry)) (now (afters .entry)) c e mc me t w r ⌝ }
+// Whether circuits c and e both hold w in slot t.
+fn both_hold(p: &Plan, m: &Masks, c: usize, e: usize, t: usize, w: usize) -> bool
+    requires { ⌜ Fit (now p) c × (getD (now m) c 0 < 2 ^ cycleIn (now p) c) ⌝ }
+    requires { ⌜ Fit (now p) e × (getD (now m) e 0 < 2 ^ cycleIn (now p) e) ⌝ }
+    ensures { λ r. ⌜ r ≡ both? (bookingIn (now (p .entry)) (now (m .entry)) c) (bookingIn (now (p .entry)) (now (m .entry)) e) t w ⌝ }
 {
-    if !holds(cycles, counts, whats, afters, c, mc, t, w) {
+    if !holds(p, m, c, t, w) {
         return false;
     }
-    holds(cycles, counts, whats, afters, e, me, t, w)
+    holds(p, m, e, t, w)
 }
 
-// Whether circuit c with the offsets mc clashes with circuit e with the offsets me: never where their
-// sets are apart.
-fn clashes_by_sets(
-    sets: &[u32],
-    cycles: &[u32],
-    counts: &[usize],
-    whats: &[usize],
-    afters: &[usize],
-    c: usize,
-    e: usize,
-    mc: u32,
-    me: u32,
-) -> bool
-    requires { ⌜ Long (now cycles) (now counts) (now whats) (now afters) ⌝ }
-    requires { ⌜ Known (now cycles) (now counts) c ⌝ }
-    requires { ⌜ Known (now cycles) (now counts) e ⌝ }
-    requires { ⌜ SetOf (now counts) (now whats) (now sets) c ⌝ }
-    requires { ⌜ SetOf (now counts) (now whats) (now sets) e ⌝ }
-    ensures { λ r. ⌜ r ≡ clashes? (bookingAt (now (cycles .entry)) (now (counts .entry)) (now (whats .entry)) (now (afters .entry)) c mc) (bookingAt (now (cycles .entry)) (now (counts .entry)) (now (whats .entry)) (now (afters .entry)) e me) ⌝ }
+// Whether circuits c and e clash: never where their sets are apart.
+fn clashes_by_sets(sets: &Sets, p: &Plan, m: &Masks, c: usize, e: usize) -> bool
+    requires { ⌜ Fit (now p) c × Fit (now p) e ⌝ }
+    requires { ⌜ Collected (now p) (now sets) c (useCount (now p) c) ⌝ }
+    requires { ⌜ Collected (now p) (now sets) e (useCount (now p) e) ⌝ }
+    ensures { λ r. ⌜ r ≡ clashes? (bookingIn (now (p .entry)) (now (m .entry)) c) (bookingIn (now (p .entry)) (now (m .entry)) e) ⌝ }
 {
     if clash_sets::apart(sets, c, e) {
         return false;
     }
-    clash_pair::pair_clashes(cycles, counts, whats, afters, c, e, mc, me)
+    clash_pair::pair_clashes(p, m, c, e)
 }
 
 // ---- The plan.
 
 // The slots before both circuits come round together for certain.
-fn slots_of(cycles: &[u32], c: usize, e: usize) -> usize
-    requires { ⌜ (c < length (now cycles)) × (e < length (now cycles)) ⌝ }
-    requires { ⌜ Cycle (getD (now cycles) c 0) ⌝ }
-    requires { ⌜ Cycle (getD (now cycles) e 0) ⌝ }
-    ensures { λ r. ⌜ r ≡ getD (now (cycles .entry)) c 0 * getD (now (cycles .entry)) e 0 ⌝ }
+fn slots_of(p: &Plan, c: usize, e: usize) -> usize
+    requires { ⌜ Fit (now p) c × Fit (now p) e ⌝ }
+    ensures { λ r. ⌜ SlotsOf (now (p .entry)) c e r ⌝ }
 {
-    clash_pair::cycle_of(cycles, c) * clash_pair::cycle_of(cycles, e)
+    plan::cycle(p, c) * plan::cycle(p, e)
 }
 
-// The first clash of n circuits with the offsets of their masks: by the lower circuit, the higher,
-// the slot and the resource.
-pub fn first_clash(
-    n: usize,
-    cycles: &[u32],
-    counts: &[usize],
-    whats: &[usize],
-    afters: &[usize],
-    masks: &[u32],
-) -> Clash
-    requires { ⌜ Lent n (now cycles) (now counts) (now whats) (now afters) ⌝ }
-    requires { ⌜ length (now masks) ≡ circuitsMost ⌝ }
-    ensures { λ r. ⌜ FirstIs n (now (cycles .entry)) (now (counts .entry)) (now (whats .entry)) (now (afters .entry)) (now (masks .entry)) r ⌝ }
+// The first clash of the circuits with the offsets of their masks: by the lower circuit, the higher, the slot and the resource.
+pub fn first_clash(p: &Plan, m: &Masks) -> Refusal
+    requires { ⌜ Slotted (now p) (now m) ⌝ }
+    ensures { λ r. ⌜ FirstIs (now (p .entry)) (now (m .entry)) r ⌝ }
 {
-    let mut sets = [0u32; CIRCUITS_MOST * SET_WORDS];
-    clash_sets::collect_all(n, counts, whats, &mut sets);
-    let mut answer = Clash::Nowhere;
+    let n = plan::circuits(p);
+    let mut sets = [0u32; SETS_SIZE];
+    clash_sets::collect_all(p, &mut sets);
+    let mut answer = Refusal::Nothing;
     'found: for i in 0..n {
-        let mi = masks[i];
         for j in i + 1..n {
-            let mj = masks[j];
-            if !clashes_by_sets(&sets, cycles, counts, whats, afters, i, j, mi, mj) {
+            if !clashes_by_sets(&sets, p, m, i, j) {
                 continue;
             }
-            let slots = slots_of(cycles, i, j);
+            let slots = slots_of(p, i, j);
             for t in 0..slots {
                 for w in 0..RESOURCES_MOST {
-                    if both_hold(cycles, counts, whats, afters, i, j, mi, mj, t, w) {
-                        answer = Clash::At {
-                            lower: i,
-                            higher: j,
-                            slot: t,
-                            what: w,
-                        };
+                    if both_hold(p, m, i, j, t, w) {
+                        answer = Refusal::Told(Answer::Clash {
+                            lower: i as u32,
+                            higher: j as u32,
+                            slot: t as u32,
+                            what: w as u32,
+                        });
                         break 'found;
                     }
                 }

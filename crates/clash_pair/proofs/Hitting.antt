@@ -3,7 +3,6 @@ use Prim.Native.Nat.{ℕ, zero, _-_, _^_, _<_}
 use mathlib.Core.Path.{_≡_, refl, sym, ap, _∙_, fun-ext}
 use mathlib.Core.Bool.{Bool, true, false, _||_}
 use mathlib.Core.List.{List, [], _∷_}
-use native.Mathlib.Omega.{arith}
 use Rattle.model.specs.Divisor.{gcd}
 use Rattle.model.specs.Tests.{any}
 use Rattle.model.specs.Holding.{Booking, offsetsClash?, clashes?}

@@ -1,11 +1,10 @@
--- The uses in rows one by one: which differences a loop over them has marked, and which uses it has passed. Assumes nothing.
+-- The uses of a plan one by one: which differences a loop over them has marked, and which uses it has passed. Assumes nothing.
 use Prim.Native.Nat.{ℕ, zero, suc, _+_, _<_}
 use mathlib.Core.Path.{_≡_, refl, sym, ap, _∙_}
 use mathlib.Core.Bool.{Bool, false, _||_, or-assoc, or-false}
 use mathlib.Core.List.{List}
 use native.Mathlib.Numerals.{add-one}
 use borrow.Author.Tests.{eq-eqb, ne-eqb}
-use lib.ListN.{getD}
 use lib.Dec.{eqb}
 use Rattle.model.specs.Tests.{_and_, any, upTo}
 use Rattle.model.specs.Network.{Use}
@@ -13,7 +12,8 @@ use Rattle.model.specs.Holding.{meet?}
 use Rattle.num_mask.specs.Bits.{bit, Marked}
 use Rattle.num_mask.proofs.Laws.{bit-none}
 use Rattle.num_cyclic.specs.Ahead.{ahead}
-use Rattle.clash_pair.specs.Differences.{useAt, usesAt, Marks, MarksUse, meetsAny, anyMeets, Bad}
+use Rattle.plan.specs.Plan.{whatIn, afterIn, useIn}
+use Rattle.clash_pair.specs.Differences.{Marks, MarksUse, meetsAny, anyMeets, Bad}
 use Rattle.num_cyclic.proofs.Ahead.{ahead-only}
 
 -- ---- one element more
@@ -51,50 +51,48 @@ meet-other : (g d : ℕ) (u v : Use) → (v .what ≡ u .what → ⊥) → meet?
 unfolding meet? _and_
 meet-other g d u v ne = rw (ne-eqb (u .what) (v .what) (λ e. ne (sym e))) refl
 
-module _ {whats afters : List ℕ} {first g what after from : ℕ} where
-  pub uses-none : MarksUse whats afters first 0 g what after from from
-  unfolding usesAt meetsAny any upTo
+module _ (p : List ℕ) (c k e g from : ℕ) where
+  abbrev u : Use
+  u = useIn p c k
+
+  pub uses-none : MarksUse p u e 0 g from from
+  unfolding meetsAny any upTo
   uses-none = record { marks = record { bits = λ d h. sym (or-false (bit from d)) } }
 
-  module _ {k acc : ℕ} (done : MarksUse whats afters first k g what after from acc) where
-    abbrev u : Use
-    u = record { what = what; after = after }
+  pub uses-all : (i count acc : ℕ) → MarksUse p u e i g from acc → i ≡ count → MarksUse p u e count g from acc
+  uses-all i count acc m e = rw (← e) m
 
-    abbrev v : Use
-    v = useAt whats afters (first + k)
-
-    met : (d : ℕ) {b : Bool} → meet? g d u 0 v ≡ b → meetsAny g u (usesAt whats afters first (k + 1)) d ≡ (meetsAny g u (usesAt whats afters first k) d || b)
-    unfolding usesAt meetsAny
-    met d e = any-more (meet? g d u 0) k _ ∙ ap (λ z. any (meet? g d u 0) (upTo k (λ k. useAt whats afters (first + k))) || z) e
+  module _ {i acc what w : ℕ} (done : MarksUse p u e i g from acc) (is-what : what ≡ whatIn p c k) (is-w : w ≡ whatIn p e i) where
+    met : (d : ℕ) {b : Bool} → meet? g d u 0 (useIn p e i) ≡ b → meetsAny g u (upTo (i + 1) (useIn p e)) d ≡ (meetsAny g u (upTo i (useIn p e)) d || b)
+    unfolding meetsAny
+    met d b = any-more (meet? g d u 0) i _ ∙ ap (λ z. any (meet? g d u 0) (upTo i (useIn p e)) || z) b
 
     -- a use of another resource
-    pub uses-other : (getD whats (first + k) 0 ≡ what → ⊥) → MarksUse whats afters first (k + 1) g what after from acc
-    unfolding useAt
-    uses-other ne = record { marks = marks-none _ (done .marks) (λ d h. met d (meet-other g d u v ne) ∙ or-false _) }
+    pub uses-other : (w ≡ what → ⊥) → MarksUse p u e (i + 1) g from acc
+    unfolding useIn
+    uses-other ne = record { marks = marks-none _ (done .marks) (λ d h. met d (meet-other g d u (useIn p e i) (λ x. ne (is-w ∙ x ∙ sym is-what))) ∙ or-false _) }
 
     -- a use of the same
-    pub uses-same : {r : ℕ} → getD whats (first + k) 0 ≡ what → Marked acc (ahead g (getD afters (first + k) 0) after) r
-        → MarksUse whats afters first (k + 1) g what after from r
-    unfolding useAt
-    uses-same {r} e m = record { marks = marks-more _ (done .marks) (record { bits = λ d h. m .bits d }) (λ d h. met d (meet-same g d u v h e)) }
-
-pub uses-all : {whats afters : List ℕ} {first k count g what after from acc : ℕ}
-    → MarksUse whats afters first k g what after from acc → k ≡ count → MarksUse whats afters first count g what after from acc
-uses-all m e = rw (← e) m
+    pub uses-same : {after x d r : ℕ} → after ≡ afterIn p c k → x ≡ afterIn p e i → d ≡ ahead g x after → w ≡ what → Marked acc d r → MarksUse p u e (i + 1) g from r
+    unfolding useIn
+    uses-same is-after is-x is-d same m = record {
+      marks = marks-more _ (done .marks) (record { bits = λ d h. m .bits d })
+          (λ d h. met d (rw (is-d, is-x, is-after) (meet-same g d u (useIn p e i) h (sym is-w ∙ same ∙ is-what))));
+    }
 
 -- ---- the same for all uses of a circuit
 
-pub record MarksAll (whats afters : List ℕ) (first g : ℕ) (l : List Use) (k acc : ℕ) : Type 0 where
-  pub marks : Marks 0 acc g (anyMeets g (usesAt whats afters first k) l)
+pub record MarksAll (p : List ℕ) (c g : ℕ) (l : List Use) (k acc : ℕ) : Type 0 where
+  pub marks : Marks 0 acc g (anyMeets g (upTo k (useIn p c)) l)
 
-module _ {whats afters : List ℕ} {first g : ℕ} {l : List Use} where
-  pub all-none : MarksAll whats afters first g l 0 0
-  unfolding usesAt anyMeets any upTo
+module _ {p : List ℕ} {c g : ℕ} {l : List Use} where
+  pub all-none : MarksAll p c g l 0 0
+  unfolding anyMeets any upTo
   all-none = record { marks = record { bits = λ d h. sym (or-false (bit 0 d)) } }
 
-  pub all-more : {k acc r : ℕ} → MarksAll whats afters first g l k acc → Marks acc r g (meetsAny g (useAt whats afters (first + k)) l) → MarksAll whats afters first g l (k + 1) r
-  unfolding usesAt anyMeets
+  pub all-more : {k acc r : ℕ} → MarksAll p c g l k acc → Marks acc r g (meetsAny g (useIn p c k) l) → MarksAll p c g l (k + 1) r
+  unfolding anyMeets
   all-more {k} done m = record { marks = marks-more _ (done .marks) m (λ d h. any-more (λ u. meetsAny g u l d) k _) }
 
-  pub all-done : {k acc n : ℕ} → MarksAll whats afters first g l k acc → k ≡ n → Bad g (usesAt whats afters first n) l acc
-  all-done {k} m e = rw (← e) (record { bits = λ d h. m .marks .bits d h ∙ ap (λ z. z || anyMeets g (usesAt whats afters first k) l d) (bit-none d) })
+  pub all-done : {k acc n : ℕ} → MarksAll p c g l k acc → k ≡ n → Bad g (upTo n (useIn p c)) l acc
+  all-done {k} m e = rw (← e) (record { bits = λ d h. m .marks .bits d h ∙ ap (λ z. z || anyMeets g (upTo k (useIn p c)) l d) (bit-none d) })

@@ -1,63 +1,48 @@
 // Two circuits: when they clash, by differences of offsets modulo the common divisor. Assumes nothing.
 ghost use mathlib.Core.Path.{_≡_};
 ghost use Prim.Native.Nat.{_<_};
-ghost use lib.ListN.{length, getD};
+ghost use Rattle.model.specs.Sizes.{circuitsMost};
 ghost use Rattle.model.specs.Holding.{clashes?};
 ghost use Rattle.num_divisor.specs.Common.{Cycle};
-ghost use Rattle.clash_pair.specs.Differences.{usesIn, InRows, Placed, MarksUse, Bad, oneHits, hitsAny};
-ghost use Rattle.clash_pair.specs.Bookings.{Long, Known, bookingAt};
-use model::USES_MOST;
+ghost use Rattle.plan.specs.Plan.{usesMost, useCount, useIn, circuitIn, bookingIn, Fit};
+ghost use Rattle.clash_pair.specs.Differences.{MarksUse, Bad, oneHits, hitsAny};
+use plan::Masks;
+use plan::Plan;
 
 // ---- Differences of offsets.
 
-// Marks the differences at which a use of `what`, `after` slots behind its offset, meets one of the
-// count uses from place first on.
-fn mark_use(
-    whats: &[usize],
-    afters: &[usize],
-    first: usize,
-    count: usize,
-    g: usize,
-    what: usize,
-    after: usize,
-    from: u32,
-) -> u32
-    requires { ⌜ InRows (now whats) (now afters) first count ⌝ }
+// Marks the differences at which use k of circuit c meets one of circuit e.
+fn mark_use(p: &Plan, c: usize, k: usize, e: usize, g: usize, from: u32) -> u32
+    requires { ⌜ (c < circuitsMost) × (k < usesMost) ⌝ }
+    requires { ⌜ Fit (now p) e ⌝ }
     requires { ⌜ Cycle g ⌝ }
-    ensures { λ r. ⌜ MarksUse (now (whats .entry)) (now (afters .entry)) first count g what after from r ⌝ }
+    ensures { λ r. ⌜ MarksUse (now (p .entry)) (useIn (now (p .entry)) c k) e (useCount (now (p .entry)) e) g from r ⌝ }
 {
+    let what = plan::what(p, c, k);
+    let after = plan::after(p, c, k);
+    let count = plan::uses(p, e);
     let mut acc = from;
-    for k in 0..count {
-        if whats[first + k] != what {
+    for i in 0..count {
+        if plan::what(p, e, i) != what {
             continue;
         }
-        let d = num_cyclic::difference(g, afters[first + k], after);
+        let d = num_cyclic::difference(g, plan::after(p, e, i), after);
         acc = num_mask::mark(acc, d as u32);
     }
     acc
 }
 
 // The differences at which a use of circuit c meets one of circuit e.
-pub fn bad_differences(
-    counts: &[usize],
-    whats: &[usize],
-    afters: &[usize],
-    c: usize,
-    e: usize,
-    g: usize,
-) -> u32
-    requires { ⌜ Placed (now counts) (now whats) (now afters) c ⌝ }
-    requires { ⌜ Placed (now counts) (now whats) (now afters) e ⌝ }
+pub fn bad_differences(p: &Plan, c: usize, e: usize, g: usize) -> u32
+    requires { ⌜ Fit (now p) c ⌝ }
+    requires { ⌜ Fit (now p) e ⌝ }
     requires { ⌜ Cycle g ⌝ }
-    ensures { λ r. ⌜ Bad g (usesIn (now (counts .entry)) (now (whats .entry)) (now (afters .entry)) c) (usesIn (now (counts .entry)) (now (whats .entry)) (now (afters .entry)) e) r ⌝ }
+    ensures { λ r. ⌜ Bad g (circuitIn (now (p .entry)) c .uses) (circuitIn (now (p .entry)) e .uses) r ⌝ }
 {
-    let p = c * USES_MOST;
-    let q = e * USES_MOST;
-    let m = counts[c];
-    let n = counts[e];
+    let count = plan::uses(p, c);
     let mut acc = 0u32;
-    for k in 0..m {
-        acc = mark_use(whats, afters, q, n, g, whats[p + k], afters[p + k], acc);
+    for k in 0..count {
+        acc = mark_use(p, c, k, e, g, acc);
     }
     acc
 }
@@ -99,36 +84,16 @@ fn hits(bad: u32, g: usize, l: u32, m: u32) -> bool
 
 // ---- Two circuits.
 
-// The cycle of circuit c.
-pub fn cycle_of(cycles: &[u32], c: usize) -> usize
-    requires { ⌜ c < length (now cycles) ⌝ }
-    requires { ⌜ Cycle (getD (now cycles) c 0) ⌝ }
-    ensures is { λ r. ⌜ r ≡ getD (now (cycles .entry)) c 0 ⌝ }
-    ensures fit { λ r. ⌜ Cycle r ⌝ }
+// Whether circuits c and e clash.
+pub fn pair_clashes(p: &Plan, m: &Masks, c: usize, e: usize) -> bool
+    requires { ⌜ Fit (now p) c ⌝ }
+    requires { ⌜ Fit (now p) e ⌝ }
+    ensures { λ r. ⌜ r ≡ clashes? (bookingIn (now (p .entry)) (now (m .entry)) c) (bookingIn (now (p .entry)) (now (m .entry)) e) ⌝ }
 {
-    cycles[c] as usize
-}
-
-// Whether circuit c with the offsets mc clashes with circuit e with the offsets me.
-pub fn pair_clashes(
-    cycles: &[u32],
-    counts: &[usize],
-    whats: &[usize],
-    afters: &[usize],
-    c: usize,
-    e: usize,
-    mc: u32,
-    me: u32,
-) -> bool
-    requires { ⌜ Long (now cycles) (now counts) (now whats) (now afters) ⌝ }
-    requires { ⌜ Known (now cycles) (now counts) c ⌝ }
-    requires { ⌜ Known (now cycles) (now counts) e ⌝ }
-    ensures { λ r. ⌜ r ≡ clashes? (bookingAt (now (cycles .entry)) (now (counts .entry)) (now (whats .entry)) (now (afters .entry)) c mc) (bookingAt (now (cycles .entry)) (now (counts .entry)) (now (whats .entry)) (now (afters .entry)) e me) ⌝ }
-{
-    let g = num_divisor::common(cycle_of(cycles, c), cycle_of(cycles, e));
-    let bad = bad_differences(counts, whats, afters, c, e, g);
+    let g = num_divisor::common(plan::cycle(p, c), plan::cycle(p, e));
+    let bad = bad_differences(p, c, e, g);
     if bad == 0 {
         return false;
     }
-    hits(bad, g, mc, me)
+    hits(bad, g, m[c], m[e])
 }

@@ -1,5 +1,5 @@
 -- Sets of resources: what loops have put into them, and that words without a common bit share no resource. Assumes nothing.
-use Prim.Native.Nat.{ℕ, _+_, _/_, _%_, _^_, _≤_, _<_}
+use Prim.Native.Nat.{ℕ, _+_, _/_, _%_, _^_, _<_}
 use mathlib.Core.Path.{_≡_, refl, ap, _∙_}
 use mathlib.Core.Bool.{true}
 use mathlib.Core.List.{List}
@@ -10,14 +10,14 @@ use borrow.Author.Tests.{eqb-true}
 use lib.ListN.{length, getD, set, length-set}
 use lib.Seq.{getD-set-same, getD-set-other}
 use lib.Bits.{bitAnd, and-shr, and-step}
-use Rattle.plan.specs.Rows.{placeOf}
+use Rattle.plan.specs.Plan.{whatIn, useCount}
 use Rattle.num_mask.specs.Bits.{bit, Marked}
-use Rattle.clash_sets.specs.Sets.{wordBits, setWords, setAt, wordAt, InSet, Grown, Collected, SetOf, SetsOf, Apart}
+use Rattle.clash_sets.specs.Sets.{wordBits, setWords, setAt, wordAt, InSet, Grown, Collected, SetsOf, Apart}
 use Rattle.num_mask.proofs.Laws.{marked-kept, marked-new}
 
 -- ---- one resource more
 
-module _ (sets : List ℕ) (c w : ℕ) {r : ℕ} (inside : setAt c + setWords ≤ length sets) (k : Marked (getD sets (wordAt c w) 0) (w % wordBits) r) where
+module _ (sets : List ℕ) (c w : ℕ) {r : ℕ} (inside : wordAt c w < length sets) (k : Marked (getD sets (wordAt c w) 0) (w % wordBits) r) where
   abbrev new : List ℕ
   new = set sets (wordAt c w) r
 
@@ -42,38 +42,32 @@ grown-none = record { long = refl; kept = λ c w h. h }
 pub grown-more : {old sets new : List ℕ} → Grown old sets → Grown sets new → Grown old new
 grown-more a b = record { long = b .long ∙ a .long; kept = λ c w h. b .kept c w (a .kept c w h) }
 
-module _ {whats : List ℕ} {c : ℕ} where
-  pub collected-none : {sets : List ℕ} → Collected whats sets c 0
+module _ {p : List ℕ} where
+  pub collected-none : {c : ℕ} {sets : List ℕ} → Collected p sets c 0
   collected-none = record { at = λ i h. absurd (omega arith) }
 
-  collected-kept : {k : ℕ} {sets new : List ℕ} → Collected whats sets c k → Grown sets new → Collected whats new c k
-  collected-kept done g = record { at = λ i h. g .kept _ _ (done .at i h) }
-
-  pub collected-more : {k : ℕ} {sets new : List ℕ} → Collected whats sets c k → Grown sets new → InSet new c (getD whats (placeOf c k) 0)
-      → Collected whats new c (k + 1)
-  collected-more {k} {sets} {new} done g last = record { at = λ i h. pick i h (decLt i k) }
+  pub collected-more : {c k w : ℕ} {sets new : List ℕ} → Collected p sets c k → w ≡ whatIn p c k → Grown sets new → InSet new c w → Collected p new c (k + 1)
+  collected-more {c} {k} {w} {sets} {new} done is g last = record { at = λ i h. pick i h (decLt i k) }
     where
-      pick : (i : ℕ) → i < k + 1 → Dec (i < k) → InSet new c (getD whats (placeOf c i) 0)
+      pick : (i : ℕ) → i < k + 1 → Dec (i < k) → InSet new c (whatIn p c i)
       pick i h (yes l) = g .kept _ _ (done .at i l)
-      pick i h (no l) = let s : i ≡ k = omega arith in rw s last
+      pick i h (no l) = let s : i ≡ k = omega arith in rw (s, ← is) last
 
-  pub collected-all : {k n : ℕ} {sets : List ℕ} → Collected whats sets c k → k ≡ n → Collected whats sets c n
-  collected-all done e = rw (← e) done
+  pub collected-all : {c k n m : ℕ} {sets : List ℕ} → Collected p sets c k → k ≡ n → n ≡ m → Collected p sets c m
+  collected-all done e f = rw (← f, ← e) done
 
-module _ {counts whats : List ℕ} where
-  pub sets-none : {sets : List ℕ} → SetsOf counts whats sets 0
+  pub sets-none : {sets : List ℕ} → SetsOf p sets 0
   sets-none = record { at = λ c h. absurd (omega arith) }
 
-  pub sets-more : {c : ℕ} {sets new : List ℕ} → SetsOf counts whats sets c → Grown sets new → setAt c + setWords ≤ length new
-      → Collected whats new c (getD counts c 0) → SetsOf counts whats new (c + 1)
-  sets-more {c} {sets} {new} done g inside last = record { at = λ e h. pick e h (decLt e c) }
+  pub sets-more : {c : ℕ} {sets new : List ℕ} → SetsOf p sets c → Grown sets new → Collected p new c (useCount p c) → SetsOf p new (c + 1)
+  sets-more {c} {sets} {new} done g last = record { at = λ e h. pick e h (decLt e c) }
     where
-      pick : (e : ℕ) → e < c + 1 → Dec (e < c) → SetOf counts whats new e
-      pick e h (yes l) = record { inside = omega arith; collected = collected-kept (done .at e l .collected) g }
-      pick e h (no l) = let s : e ≡ c = omega arith in rw s (record { inside = inside; collected = last })
+      pick : (e : ℕ) → e < c + 1 → Dec (e < c) → Collected p new e (useCount p e)
+      pick e h (yes l) = record { at = λ i k. g .kept _ _ (done .at e l .at i k) }
+      pick e h (no l) = let s : e ≡ c = omega arith in rw s last
 
-  pub sets-all : {c n : ℕ} {sets : List ℕ} → SetsOf counts whats sets c → c ≡ n → SetsOf counts whats sets n
-  sets-all done e = rw (← e) done
+  pub sets-all : {c n m : ℕ} {sets : List ℕ} → SetsOf p sets c → c ≡ n → n ≡ m → SetsOf p sets m
+  sets-all done e f = rw (← f, ← e) done
 
 -- ---- two sets
 

@@ -1,25 +1,25 @@
 -- Laws for callers: what is known of a file by what `read` returned of it, and of the record at a circuit's byte. Assumes nothing.
-use Prim.Native.Nat.{ℕ, _+_, _-_, _≤_, _<_}
+use Prim.Native.Nat.{ℕ, _+_, _≤_, _<_}
 use mathlib.Core.Path.{_≡_, sym, ap, _∙_}
 use mathlib.Core.List.{List, []}
 use mathlib.Core.Option.{none}
 use native.Mathlib.Omega.{arith}
 use borrow.Author.Tests.{ltb-false}
-use lib.ListN.{length, getD, replicate, length-map, List·getD-append}
+use lib.ListN.{length, getD, length-map}
 use Rattle.model.specs.Sizes.{circuitsMost, headSize, assignmentFile}
 use Rattle.model.specs.Bytes.{lengthAt}
-use Rattle.model.specs.Network.{Request, circuitOf}
+use Rattle.model.specs.Network.{Request}
 use Rattle.model.specs.Holding.{offsetsOf}
 use Rattle.model.specs.Reading.{have, starts, offsetsVerdict, assignmentWalk, offsetsAt, assignment}
 use Rattle.model.specs.Jobs.{assignmentFault}
 use Rattle.model.specs.declared.Verdict.the-variants.{Fine}
-use Rattle.model.proofs.Tests.{same, getD-map}
+use Rattle.model.proofs.Tests.{getD-map}
 use Rattle.model.proofs.Readers.{offsets-free, offsets-tests, offsets-sound}
-use Rattle.file_records.specs.Fields.{endingOf}
+use Rattle.file_records.specs.Fields.{placesOf}
 use Rattle.file_records.specs.declared.Ending.the-variants.{Whole}
-use Rattle.file_records.proofs.Endings.{ends-whole}
-use Rattle.file_assignment.specs.Parts.{bookedOf, BookedAt}
-use Rattle.file_assignment.specs.declared.Booked.{Booked}
+use Rattle.file_records.specs.declared.Places.{Places}
+use Rattle.file_records.proofs.Endings.{places-whole, row-long, row-is}
+use Rattle.file_assignment.specs.Parts.{BookedAt}
 
 module _ (q : Request) (s : List ℕ) where
   -- a file without a fault has a record for each circuit
@@ -27,27 +27,21 @@ module _ (q : Request) (s : List ℕ) where
   unfolding assignment
   starts-many e = sym (length-map (starts (assignmentWalk q s)) (offsetsAt s)) ∙ offsets-sound q s e .each
 
-  -- ---- b is what `read` returned
+  -- ---- r is what `read` told of a file that is whole
 
-  module _ (b : Booked) (e : b ≡ bookedOf q s) where
-    ending-is : b .ending ≡ endingOf (assignmentWalk q s)
-    unfolding bookedOf
-    ending-is = ap (λ (b : Booked). b .ending) e
+  module _ (r : Places) (e : r ≡ placesOf (assignmentWalk q s)) (h : r .ending ≡ Whole) where
+    pub file-whole : assignmentFault q s ≡ none
+    file-whole = places-whole (assignmentWalk q s) r e assignmentFile h
 
-    module _ (h : b .ending ≡ Whole) where
-      pub file-whole : assignmentFault q s ≡ none
-      file-whole = ends-whole assignmentFile (assignmentWalk q s) (sym ending-is ∙ h)
+    pub places-long : length (r .at) ≡ circuitsMost
+    places-long = row-long (assignmentWalk q s) r e (omega (arith, offsets-free q s file-whole .few))
 
-      pub booked-here : (n c a : ℕ) → length (q .circuits) ≡ n → c < n → a ≡ getD (b .at) c 0 → BookedAt q s c a
-      unfolding bookedOf
-      booked-here n c a many low is =
-          let at : List ℕ = starts (assignmentWalk q s) in
-          let k : c < length at = omega (arith, starts-many file-whole) in
-          record {
-            whole = file-whole;
-            low = omega arith;
-            is = is ∙ ap (λ (b : Booked). getD (b .at) c 0) e ∙ List·getD-append at (replicate (circuitsMost - length at) 0) 0 c k;
-          }
+    pub booked-here : (c : ℕ) → c < length (q .circuits) → BookedAt q s c (getD (r .at) c 0)
+    booked-here c low = record {
+      whole = file-whole;
+      low = low;
+      is = row-is (assignmentWalk q s) r e c (omega (arith, starts-many file-whole));
+    }
 
   -- ---- circuit c's record starts at a
 
@@ -61,9 +55,6 @@ module _ (q : Request) (s : List ℕ) where
     pub offsets-are : offsetsOf (assignment q s) c ≡ offsetsAt s a
     unfolding assignment
     offsets-are = getD-map (offsetsAt s) (starts (assignmentWalk q s)) c 0 [] found ∙ ap (offsetsAt s) (sym (b .is))
-
-    pub length-is : lengthAt s a ≡ circuitOf q c .demand
-    length-is = same (lengthAt s a) (circuitOf q c .demand) (offsets-tests q s c a fine .0 .1 .1 .1 .1 .0)
 
     pub record-inside : a + headSize + lengthAt s a ≤ length s
     record-inside =

@@ -1,47 +1,30 @@
-// The assignment file, read in place: the bytes where its offsets records start, or its fault. Of the
-// request it takes the number of circuits, their cycles and their demands. Assumes nothing.
+// The assignment file, read in place beside the request that it is for: the bytes where its offsets
+// records start, or its fault. Assumes nothing.
 ghost use mathlib.Core.Path.{_≡_};
 ghost use Prim.Native.Nat.{_≤_, _<_};
-ghost use lib.ListN.{length, getD};
-ghost use Rattle.model.specs.Sizes.{circuitsMost, wordEnd};
+ghost use lib.ListN.{length};
+ghost use Rattle.model.specs.Sizes.{wordEnd};
 ghost use Rattle.model.specs.Tests.{least};
-ghost use Rattle.model.specs.Network.{Request};
-ghost use Rattle.model.specs.Reading.{badOffset, offsetsHead};
-ghost use Rattle.file_assignment.specs.Parts.{OfRequest, offsetsBy, stepBy, bookedOf};
+ghost use Rattle.model.specs.Reading.{request, badOffset, offsetsVerdict, assignmentStep, assignmentWalk};
+ghost use Rattle.file_records.specs.Fields.{placesOf};
+ghost use Rattle.file_parts.specs.Parts.{Starts};
+ghost use Rattle.file_assignment.specs.Parts.{offsetsNumbers};
 use file_records::Ending;
+use file_records::Places;
 use model::CIRCUITS_MOST;
 use model::CYCLE_MOST;
-use model::END_KIND;
 use model::Fault;
 use model::HEAD_SIZE;
-use model::KIND_AT;
 use model::OFFSETS_KIND;
 use model::Step;
 use model::Verdict;
 
-// at[c] is the byte where circuit c's offsets record starts, 0 past the last; where the file is
-// refused, all are 0.
-pub struct Booked {
-    pub ending: Ending,
-    pub at: [usize; CIRCUITS_MOST],
-}
-
-// The number at k, 0 past the end.
-fn entry(l: &[u32], k: usize) -> usize
-    ensures { λ r. ⌜ r ≡ getD (now (l .entry)) k 0 ⌝ }
-{
-    if k < l.len() { l[k] as usize } else { 0 }
-}
-
-// The tests on an offsets record's numbers: k records stand before it, n circuits are there, and
-// `have` bytes stand from it to the end of the file.
-fn offsets_head(k: usize, n: usize, have: usize, len: usize, demand: usize) -> Verdict
+// The tests on the numbers of an offsets record that is not one too many, with so many bytes to the
+// end.
+fn offsets_head(have: usize, len: usize, demand: usize) -> Verdict
     requires { ⌜ len < wordEnd ⌝ }
-    ensures { λ r. ⌜ r ≡ offsetsHead k n have len demand ⌝ }
+    ensures { λ r. ⌜ r ≡ offsetsNumbers have len demand ⌝ }
 {
-    if n <= k {
-        return Verdict::Faulty(Fault::Offsets);
-    }
     if len < 1 {
         return Verdict::Faulty(Fault::Length);
     }
@@ -88,14 +71,21 @@ fn first_bad_offset(s: &[u8], p: usize, cycle: usize, n: usize) -> usize
     i
 }
 
-// The verdict on the offsets record at p, behind k others, where the circuit that it is for has this
-// cycle and this demand.
-fn offsets(s: &[u8], n: usize, cycle: usize, demand: usize, k: usize, p: usize) -> Verdict
+// The verdict on the offsets record at p, behind k others, for a request of n circuits whose records
+// start at these bytes.
+fn verdict(req: &[u8], n: usize, at: &[usize], s: &[u8], k: usize, p: usize) -> Verdict
+    requires { ⌜ Starts (now req) n (now at) ⌝ }
     requires { ⌜ p ≤ length (now s) ⌝ }
-    ensures { λ r. ⌜ r ≡ offsetsBy n cycle demand (now (s .entry)) k p ⌝ }
+    ensures { λ r. ⌜ r ≡ offsetsVerdict (request (now (req .entry))) (now (s .entry)) k p ⌝ }
 {
+    if n <= k {
+        return Verdict::Faulty(Fault::Offsets);
+    }
+    let a = at[k];
+    let cycle = file_parts::cycle_of(req, k, a);
+    let demand = file_parts::demand_of(req, k, a);
     let len = file_records::word(s, p);
-    let head = offsets_head(k, n, s.len() - p, len, demand);
+    let head = offsets_head(s.len() - p, len, demand);
     if !file_records::is_fine(head) {
         return head;
     }
@@ -107,54 +97,40 @@ fn offsets(s: &[u8], n: usize, cycle: usize, demand: usize, k: usize, p: usize) 
 }
 
 // What stands at p, behind k offsets records.
-fn step_at(s: &[u8], n: usize, cycle: usize, demand: usize, k: usize, p: usize) -> Step
+fn step_at(req: &[u8], n: usize, at: &[usize], s: &[u8], k: usize, p: usize) -> Step
+    requires { ⌜ Starts (now req) n (now at) ⌝ }
     requires { ⌜ p ≤ length (now s) ⌝ }
-    ensures { λ r. ⌜ r ≡ stepBy n cycle demand (now (s .entry)) k p ⌝ }
+    ensures { λ r. ⌜ r ≡ assignmentStep (request (now (req .entry))) (now (s .entry)) k p ⌝ }
 {
-    if s.len() - p < HEAD_SIZE {
-        return Step::Refused(Fault::Cut, p);
-    }
-    let kind = file_records::word(s, p + KIND_AT);
-    if kind == END_KIND {
-        return file_records::end_step(s, p, k < n);
-    }
-    if kind != OFFSETS_KIND {
-        return Step::Refused(Fault::Kind, p);
-    }
-    let v = offsets(s, n, cycle, demand, k, p);
-    file_records::past(s, p, v)
+    let v = verdict(req, n, at, s, k, p);
+    file_records::step_at(s, p, OFFSETS_KIND, k < n, v)
 }
 
-// Reads the assignment of a request that has n circuits with these cycles and demands.
-pub fn read(s: &[u8], n: usize, cycles: &[u32], demands: &[u32]) -> Booked
-    requires { ⌜ n ≤ circuitsMost ⌝ }
-    ensures { λ r. ⌜ ((q : Request) → OfRequest q n (now (cycles .entry)) (now (demands .entry)) → r ≡ bookedOf q (now (s .entry))) ⌝ }
+// Reads the assignment of a request of n circuits, whose records start at these bytes.
+pub fn read(req: &[u8], n: usize, at: &[usize], s: &[u8]) -> Places
+    requires { ⌜ Starts (now req) n (now at) ⌝ }
+    ensures { λ r. ⌜ r ≡ placesOf (assignmentWalk (request (now (req .entry))) (now (s .entry))) ⌝ }
 {
-    let mut at = [0usize; CIRCUITS_MOST];
+    let mut places = [0usize; CIRCUITS_MOST];
     let mut k = 0;
     let mut p = 0;
     loop {
-        let cycle = entry(cycles, k);
-        let demand = entry(demands, k);
-        let step = step_at(s, n, cycle, demand, k, p);
+        let step = step_at(req, n, at, s, k, p);
         match step {
             Step::Next(next) => {
-                at[k] = p;
+                places[k] = p;
                 k += 1;
                 p = next;
             }
             Step::End => {
-                return Booked {
+                return Places {
                     ending: Ending::Whole,
-                    at,
+                    count: k,
+                    at: places,
                 };
             }
             Step::Refused(fault, byte) => {
-                let none = [0usize; CIRCUITS_MOST];
-                return Booked {
-                    ending: Ending::Stopped(fault, byte),
-                    at: none,
-                };
+                return file_records::refused(fault, byte);
             }
         }
     }

@@ -16,7 +16,7 @@ use Rattle.model.specs.Reading.{fromPlace, pathPlace, have, starts, buffersOf, 
 use Rattle.model.specs.Jobs.{requestFault}
 use Rattle.model.specs.declared.Verdict.the-variants.{Fine}
 use Rattle.model.proofs.Tests.{getD-map, getD-upTo, length-upTo}
-use Rattle.model.proofs.Sound.{SoundPath}
+use Rattle.model.specs.Sound.{SoundPath}
 use Rattle.model.proofs.Readers.{buffers-are, from-is, circuit-tests, request-free, request-sound}
 use Rattle.file_records.specs.Fields.{Byte, Word}
 use Rattle.file_parts.specs.Parts.{StartsAt, HasLink, CycleIs, DemandIs, HopsIs, HopIs, FromIs}

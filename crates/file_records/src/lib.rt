@@ -1,15 +1,18 @@
-// Bytes and numbers of a file by position, 0 past the end, and the steps over its records that all
-// three files share.
+// Bytes and numbers of a file by position, 0 past the end, and what all three files share: the step
+// over a record, and how a reading ends.
 ghost use mathlib.Core.Path.{_≡_};
 ghost use Prim.Native.Nat.{_+_, _≤_, _<_, _^_};
 ghost use lib.ListN.{length};
 ghost use Rattle.model.specs.Sizes.{wordEnd};
-ghost use Rattle.model.specs.Reading.{fromPlace, toPlace, pathPlace, onward, endStep};
-ghost use Rattle.file_records.specs.Fields.{Byte, Word, isFine};
+ghost use Rattle.model.specs.Reading.{fromPlace, toPlace, pathPlace, onward, endStep, stepAt, stopped};
+ghost use Rattle.file_records.specs.Fields.{Byte, Word, isFine, placesOf};
+use model::CIRCUITS_MOST;
+use model::END_KIND;
 use model::FROM_AT;
 use model::Fault;
 use model::HEAD_SIZE;
 use model::HOP_SIZE;
+use model::KIND_AT;
 use model::LINK_SIZE;
 use model::PATH_AT;
 use model::Step;
@@ -20,6 +23,14 @@ use model::Verdict;
 pub enum Ending {
     Whole,
     Stopped(Fault, usize),
+}
+
+// How the reading of a file ends, how many records stand in it, and the byte where each starts, 0
+// past the last. Of a file with a fault count is 0, and so is all of at.
+pub struct Places {
+    pub ending: Ending,
+    pub count: usize,
+    pub at: [usize; CIRCUITS_MOST],
 }
 
 // The byte at i.
@@ -47,7 +58,7 @@ pub fn is_fine(v: Verdict) -> bool
 }
 
 // Past the record at p, unless it has a fault.
-pub fn past(s: &[u8], p: usize, v: Verdict) -> Step
+fn past(s: &[u8], p: usize, v: Verdict) -> Step
     requires { ⌜ p ≤ length (now s) ⌝ }
     ensures { λ r. ⌜ r ≡ onward (now (s .entry)) p v ⌝ }
 {
@@ -61,7 +72,7 @@ pub fn past(s: &[u8], p: usize, v: Verdict) -> Step
 }
 
 // The end record at p, which comes too early where `early` says so.
-pub fn end_step(s: &[u8], p: usize, early: bool) -> Step
+fn end_step(s: &[u8], p: usize, early: bool) -> Step
     requires { ⌜ p ≤ length (now s) ⌝ }
     ensures { λ r. ⌜ r ≡ endStep (now (s .entry)) p early ⌝ }
 {
@@ -76,6 +87,36 @@ pub fn end_step(s: &[u8], p: usize, early: bool) -> Step
         return Step::Refused(Fault::After, p + HEAD_SIZE);
     }
     Step::End
+}
+
+// What stands at p: a record of this kind, on which the verdict is v, or the end record, or neither.
+pub fn step_at(s: &[u8], p: usize, kind: usize, early: bool, v: Verdict) -> Step
+    requires { ⌜ p ≤ length (now s) ⌝ }
+    ensures { λ r. ⌜ r ≡ stepAt kind early v (now (s .entry)) p ⌝ }
+{
+    if s.len() - p < HEAD_SIZE {
+        return Step::Refused(Fault::Cut, p);
+    }
+    let found = word(s, p + KIND_AT);
+    if found == END_KIND {
+        return end_step(s, p, early);
+    }
+    if found != kind {
+        return Step::Refused(Fault::Kind, p);
+    }
+    past(s, p, v)
+}
+
+// What is told of a file that is refused at p.
+pub fn refused(f: Fault, p: usize) -> Places
+    ensures { λ r. ⌜ r ≡ placesOf (stopped f p) ⌝ }
+{
+    let at = [0usize; CIRCUITS_MOST];
+    Places {
+        ending: Ending::Stopped(f, p),
+        count: 0,
+        at,
+    }
 }
 
 // ---- Numbers of a request that more than one reader asks for.

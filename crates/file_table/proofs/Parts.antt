@@ -5,40 +5,27 @@ use mathlib.Core.Path.{_≡_, refl, sym, ap, subst, _∙_}
 use mathlib.Core.Logic.{_⊎_, inl, inr, ⊎-elim}
 use mathlib.Core.Bool.{Bool, true, false}
 use mathlib.Core.List.{List, [], _∷_, _++_}
-use mathlib.Core.Option.{none}
 use native.Mathlib.Nat.{not-suc-le-zero}
 use native.Mathlib.Omega.{arith}
 use borrow.Author.Tests.{ltb-false, leb-false, eqb-true}
 use lib.Dec.{ltb, eqb, ltb→lt, eqb→eq}
 use lib.ListN.{length, getD, length-map, List·getD-append}
-use Rattle.model.specs.Sizes.{linesMost, local, tableFile}
+use Rattle.model.specs.Sizes.{linesMost, local}
 use Rattle.model.specs.Tests.{_and_, neg}
 use Rattle.model.specs.Network.{Network, fromRouter, toRouter}
 use Rattle.model.specs.Lines.{lineOf, noLine}
 use Rattle.model.specs.Reading.{Walked, complete, stopped, starts, badIn, badOut, lineVerdict, tableStep, tableWalk, lineAt, table}
-use Rattle.model.specs.Answers.{damage}
-use Rattle.model.specs.declared.Fault.{Fault}
 use Rattle.model.specs.declared.Verdict.the-variants.{Fine}
 use Rattle.model.proofs.Tests.{and→, neg-eq, neg-neg→, getD-map}
 use Rattle.model.proofs.Records.{Row, Comes, walk-comes}
 use Rattle.model.proofs.Readers.{lines-free, line-tests}
-use Rattle.file_records.specs.declared.Ending.the-variants.{Whole, Stopped}
-use Rattle.file_records.proofs.Endings.{ends-whole, ends-stopped}
 use Rattle.file_table.specs.Parts.{linedOf, lineStart, LineIn, LeadsTo, OwnedBy, GoodLine}
 use Rattle.file_table.specs.declared.Lined.{Lined}
-use Rattle.file_table.proofs.Walking.{passing}
+use Rattle.file_table.proofs.Walking.{next-is}
 
 -- ---- what `read` answers
 
 module _ (net : Network) (s : List ℕ) (r : Lined) (is : r ≡ linedOf net s) where
-  -- it is whole: no fault
-  pub whole-is : r .ending ≡ Whole → damage tableFile (tableWalk net s) ≡ none
-  whole-is e = ends-whole tableFile (tableWalk net s) (sym (ap (λ (x : Lined). x .ending) is) ∙ e)
-
-  -- it stopped: where, and with which fault
-  pub stopped-is : (f : Fault) (p : ℕ) → r .ending ≡ Stopped f p → tableWalk net s ≡ stopped f p
-  stopped-is f p e = ends-stopped (tableWalk net s) f p (sym (ap (λ (x : Lined). x .ending) is) ∙ e)
-
   pub lines-are : r .lines ≡ length (table net s)
   unfolding table
   lines-are = ap (λ (x : Lined). x .lines) is ∙ sym (length-map (starts (tableWalk net s)) (lineAt s))
@@ -49,8 +36,7 @@ module _ (net : Network) (s : List ℕ) (r : Lined) (is : r ≡ linedOf net s) w
 row-at : (net : Network) (s l : List ℕ) (p : ℕ) → Row (tableStep net s) 0 l p → (n : ℕ) → n ≤ length l → getD (l ++ (p ∷ [])) n 0 ≡ lineStart n
 row-at net s l p r zero h = r .begins
 row-at net s l p r (suc n) h =
-    let here = passing net s n (getD l n 0) _ (r .each n h) in
-    omega (arith, row-at net s l p r n (omega arith), List·getD-append l (p ∷ []) 0 n h, here .next-is)
+    omega (arith, row-at net s l p r n (omega arith), List·getD-append l (p ∷ []) 0 n h, next-is net s n (getD l n 0) _ (r .each n h))
 
 start-is : (net : Network) (s : List ℕ) (m : ℕ) → m < length (starts (tableWalk net s)) → getD (starts (tableWalk net s)) m 0 ≡ lineStart m
 unfolding tableWalk

@@ -1,15 +1,17 @@
--- What the reader of a table file answers, where its lines stand, and what is known of a line. Assumes nothing: these are definitions.
+-- What the reader of a table file answers, the tests on a line's numbers, where lines stand, and what is known of one. Assumes nothing: these are definitions.
 use Prim.Native.Nat.{ℕ, _+_, _*_, _≤_, _<_}
 use mathlib.Core.Path.{_≡_}
 use mathlib.Core.Logic.{_⊎_}
 use mathlib.Core.List.{List}
 use mathlib.Core.Option.{none}
-use lib.ListN.{length}
+use lib.ListN.{length, drop}
 use Rattle.model.specs.Sizes.{cycleMost, local, headSize, lineSize, tableFile}
+use Rattle.model.specs.Tests.{neg}
 use Rattle.model.specs.Network.{Network, fromRouter, toRouter}
 use Rattle.model.specs.Lines.{Line}
-use Rattle.model.specs.Reading.{Walked, starts, tableWalk, table}
+use Rattle.model.specs.Reading.{judge, Walked, starts, badIn, badOut, lineRows, tableWalk, table}
 use Rattle.model.specs.Answers.{damage}
+use Rattle.model.specs.declared.Verdict.{Verdict}
 use Rattle.file_records.specs.Fields.{endingOf}
 use Rattle.file_table.specs.declared.Lined.{Lined}
 
@@ -19,6 +21,11 @@ linedBy w = record { ending = endingOf w; lines = length (starts w) }
 
 abbrev pub linedOf : Network → List ℕ → Lined
 linedOf net s = linedBy (tableWalk net s)
+
+-- the tests on a line's own numbers, behind the three on its place in the file
+unfoldable pub lineNumbers : (net : Network) (router period slot spare inp out : ℕ) → Verdict
+unfolding neg badIn badOut
+lineNumbers net router period slot spare inp out = judge (drop 3 (lineRows net 0 0 0 router period slot spare inp out))
 
 -- the byte where line m starts: each line before it has a head and a body
 abbrev pub lineStart : ℕ → ℕ

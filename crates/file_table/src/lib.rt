@@ -1,25 +1,22 @@
 // Reads a table file in place: each line that passes has the same size, so line m starts at m times
 // that size, and nothing is stored. Assumes nothing.
 ghost use mathlib.Core.Path.{_≡_};
-ghost use Prim.Native.Nat.{_≤_, _<_};
+ghost use Prim.Native.Nat.{_+_, _≤_, _<_};
 ghost use lib.ListN.{length};
 ghost use Rattle.model.specs.Sizes.{linesMost, wordEnd};
-ghost use Rattle.model.specs.Reading.{request, judge, lineRows, badIn, badOut, lineVerdict, tableStep, lineAt};
-ghost use Rattle.file_table.specs.Parts.{linedOf, lineStart, Is};
+ghost use Rattle.model.specs.Bytes.{byteAt, wordAt};
+ghost use Rattle.model.specs.Reading.{request, badIn, badOut, lineVerdict, tableStep, lineAt};
+ghost use Rattle.file_table.specs.Parts.{linedOf, lineNumbers, lineStart, Is};
 use file_records::Ending;
 use file_records::byte;
-use file_records::end_step;
 use file_records::from_of;
-use file_records::past;
 use file_records::to_of;
 use file_records::word;
 use model::BUFFERS_AT;
 use model::CYCLE_MOST;
-use model::END_KIND;
 use model::Fault;
 use model::HEAD_SIZE;
 use model::IN_AT;
-use model::KIND_AT;
 use model::LINE_BYTES;
 use model::LINE_KIND;
 use model::LINE_SIZE;
@@ -69,12 +66,9 @@ fn bad_out(req: &[u8], router: usize, out: usize) -> bool
     from != router
 }
 
-// The tests on a line's numbers, where n lines stand before it and `have` bytes from it to the end.
-fn line_rows(
+// The tests on a line's own numbers, behind those on its place in the file.
+fn line_numbers(
     req: &[u8],
-    n: usize,
-    have: usize,
-    len: usize,
     router: usize,
     period: usize,
     slot: usize,
@@ -83,17 +77,8 @@ fn line_rows(
     out: usize,
 ) -> Verdict
     requires { ⌜ (inp < wordEnd) × (out < wordEnd) ⌝ }
-    ensures { λ r. ⌜ r ≡ judge (lineRows (request (now (req .entry)) .network) n have len router period slot spare inp out) ⌝ }
+    ensures { λ r. ⌜ r ≡ lineNumbers (request (now (req .entry)) .network) router period slot spare inp out ⌝ }
 {
-    if LINES_MOST <= n {
-        return Verdict::Faulty(Fault::Count);
-    }
-    if len != LINE_SIZE {
-        return Verdict::Faulty(Fault::Length);
-    }
-    if have < HEAD_SIZE + len {
-        return Verdict::Faulty(Fault::Cut);
-    }
     let routers = word(req, ROUTERS_AT);
     if routers <= router {
         return Verdict::Faulty(Fault::Line);
@@ -124,25 +109,23 @@ fn verdict(req: &[u8], s: &[u8], n: usize, p: usize) -> Verdict
     requires { ⌜ p ≤ length (now s) ⌝ }
     ensures { λ r. ⌜ r ≡ lineVerdict (request (now (req .entry)) .network) (now (s .entry)) n p ⌝ }
 {
+    if LINES_MOST <= n {
+        return Verdict::Faulty(Fault::Count);
+    }
     let len = word(s, p);
+    if len != LINE_SIZE {
+        return Verdict::Faulty(Fault::Length);
+    }
+    if s.len() - p < HEAD_SIZE + len {
+        return Verdict::Faulty(Fault::Cut);
+    }
     let router = byte(s, p + ROUTER_AT);
     let period = byte(s, p + PERIOD_AT);
     let slot = byte(s, p + SLOT_AT);
     let spare = byte(s, p + LINE_SPARE_AT);
     let inp = word(s, p + IN_AT);
     let out = word(s, p + OUT_AT);
-    line_rows(
-        req,
-        n,
-        s.len() - p,
-        len,
-        router,
-        period,
-        slot,
-        spare,
-        inp,
-        out,
-    )
+    line_numbers(req, router, period, slot, spare, inp, out)
 }
 
 // What stands at p, where n lines stand before it.
@@ -150,18 +133,8 @@ fn step_at(req: &[u8], s: &[u8], n: usize, p: usize) -> Step
     requires { ⌜ p ≤ length (now s) ⌝ }
     ensures { λ r. ⌜ r ≡ tableStep (request (now (req .entry)) .network) (now (s .entry)) n p ⌝ }
 {
-    if s.len() - p < HEAD_SIZE {
-        return Step::Refused(Fault::Cut, p);
-    }
-    let kind = word(s, p + KIND_AT);
-    if kind == END_KIND {
-        return end_step(s, p, false);
-    }
-    if kind == LINE_KIND {
-        let v = verdict(req, s, n, p);
-        return past(s, p, v);
-    }
-    Step::Refused(Fault::Kind, p)
+    let v = verdict(req, s, n, p);
+    file_records::step_at(s, p, LINE_KIND, false, v)
 }
 
 // Reads the table file s, for the network of the request file.
@@ -193,38 +166,61 @@ pub fn read(req: &[u8], s: &[u8]) -> Lined
     }
 }
 
+// The byte where line m starts.
+fn place(m: usize) -> usize
+    requires { ⌜ m < linesMost ⌝ }
+    ensures { λ r. ⌜ r ≡ lineStart m ⌝ }
+{
+    LINE_BYTES * m
+}
+
+// The byte at i of line m, and the number of the two bytes there.
+fn byte_of(s: &[u8], m: usize, i: usize) -> usize
+    requires { ⌜ (m < linesMost) × (i < wordEnd) ⌝ }
+    ensures { λ r. ⌜ Is (byteAt (now (s .entry)) (lineStart m + i)) 256 r ⌝ }
+{
+    byte(s, place(m) + i)
+}
+
+fn word_of(s: &[u8], m: usize, i: usize) -> usize
+    requires { ⌜ (m < linesMost) × (i < wordEnd) ⌝ }
+    ensures { λ r. ⌜ Is (wordAt (now (s .entry)) (lineStart m + i)) wordEnd r ⌝ }
+{
+    word(s, place(m) + i)
+}
+
 // The parts of line m.
 pub fn router_of(s: &[u8], m: usize) -> usize
     requires { ⌜ m < linesMost ⌝ }
     ensures { λ r. ⌜ Is (lineAt (now (s .entry)) (lineStart m) .router) 256 r ⌝ }
 {
-    byte(s, LINE_BYTES * m + ROUTER_AT)
+    byte_of(s, m, ROUTER_AT)
 }
 
 pub fn period_of(s: &[u8], m: usize) -> usize
     requires { ⌜ m < linesMost ⌝ }
     ensures { λ r. ⌜ Is (lineAt (now (s .entry)) (lineStart m) .period) 256 r ⌝ }
 {
-    byte(s, LINE_BYTES * m + PERIOD_AT)
+    byte_of(s, m, PERIOD_AT)
 }
 
 pub fn slot_of(s: &[u8], m: usize) -> usize
     requires { ⌜ m < linesMost ⌝ }
     ensures { λ r. ⌜ Is (lineAt (now (s .entry)) (lineStart m) .slot) 256 r ⌝ }
 {
-    byte(s, LINE_BYTES * m + SLOT_AT)
+    byte_of(s, m, SLOT_AT)
 }
 
 pub fn in_of(s: &[u8], m: usize) -> usize
     requires { ⌜ m < linesMost ⌝ }
     ensures { λ r. ⌜ Is (lineAt (now (s .entry)) (lineStart m) .inp) wordEnd r ⌝ }
 {
-    word(s, LINE_BYTES * m + IN_AT)
+    word_of(s, m, IN_AT)
 }
 
 pub fn out_of(s: &[u8], m: usize) -> usize
     requires { ⌜ m < linesMost ⌝ }
     ensures { λ r. ⌜ Is (lineAt (now (s .entry)) (lineStart m) .out) wordEnd r ⌝ }
 {
-    word(s, LINE_BYTES * m + OUT_AT)
+    word_of(s, m, OUT_AT)
 }

@@ -1,8 +1,7 @@
 -- Laws of lists by number and of lists one behind the other. Assumes nothing.
-use Prim.Native.Nat.{ℕ, zero, suc, _+_, _≤_, _<_, suc-le-suc}
+use Prim.Native.Nat.{ℕ, zero, suc, _+_, _≤_, _<_}
 use mathlib.Core.Path.{_≡_, refl, sym, ap, _∙_}
 use mathlib.Core.List.{List, [], _∷_, _++_, map, append-assoc}
-use native.Mathlib.Nat.{zero-lt-suc}
 use native.Mathlib.Numerals.{add-one}
 use native.Mathlib.Omega.{arith}
 use lib.ListN.{length, getD, drop, length-append, drop-of-length-le}
@@ -13,11 +12,6 @@ use Rattle.model.proofs.Tests.{length-upTo, getD-upTo}
 -- ---- by number
 
 module _ {A : Type 0} where
-  pub upTo-same : (n : ℕ) (f g : ℕ → A) → ((i : ℕ) → i < n → f i ≡ g i) → upTo n f ≡ upTo n g
-  unfolding upTo
-  upTo-same zero f g e = refl
-  upTo-same (suc n) f g e = (λ i. e 0 (zero-lt-suc n) i ∷ upTo-same n (λ i. f (suc i)) (λ i. g (suc i)) (λ i h. e (suc i) (suc-le-suc h)) i)
-
   pub map-upTo : {B : Type 0} (g : A → B) (n : ℕ) (f : ℕ → A) → map g (upTo n f) ≡ upTo n (λ i. g (f i))
   unfolding upTo
   map-upTo g zero f = refl

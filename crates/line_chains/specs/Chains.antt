@@ -1,26 +1,23 @@
 -- Lines in chains by their inports: the next line that has an inport, and what `link` asks and tells. Assumes nothing: these are definitions.
 use Prim.Native.Nat.{ℕ, suc, _+_, _-_, _≤_, _<_}
 use mathlib.Core.Path.{_≡_}
-use mathlib.Core.Bool.{Bool, cond}
+use mathlib.Core.Bool.{Bool}
 use mathlib.Core.List.{List}
 use lib.ListN.{length, getD}
 use lib.Dec.{eqb}
-use Rattle.model.specs.Sizes.{linesMost, local, inportOf, resourcesMost}
+use Rattle.model.specs.Sizes.{linesMost, resourcesMost}
 use Rattle.model.specs.Tests.{least}
 use Rattle.model.specs.Lines.{Line}
 use Rattle.model.specs.Reading.{lineAt}
 use Rattle.num_divisor.specs.Common.{Cycle}
 use Rattle.file_table.specs.Parts.{lineStart}
+use Rattle.plan.specs.Plan.{portOf}
 
 -- the first number from i on, below n, that passes; and n where there is none
 unfoldable pub nextIn : ℕ → (ℕ → Bool) → ℕ → ℕ
 nextIn n p i = i + least (n - i) (λ d. p (i + d))
 
 -- ---- the inports of lines
-
--- the inport of a line, and of a series, as a resource: a buffer, or a router's local inport
-unfoldable pub portOf : ℕ → ℕ → ℕ
-portOf router i = cond (eqb i local) (inportOf router) i
 
 -- line m of a table file
 abbrev pub lineIn : List ℕ → ℕ → Line
@@ -41,18 +38,32 @@ pub record Tabled (t : List ℕ) (lines : ℕ) : Type 0 where
   pub period : (m : ℕ) → m < lines → Cycle (lineIn t m .period)
   pub slot : (m : ℕ) → m < lines → lineIn t m .slot < lineIn t m .period
 
--- there is room for the chains
-pub record Room (head next : List ℕ) : Type 0 where
-  pub head-long : length head ≡ resourcesMost
-  pub next-long : length next ≡ linesMost
+-- ---- the chains as an array: how many lines there are; for each inport its first line; for each line the next with its inport
+
+abbrev pub nextAt : ℕ
+nextAt = 1 + resourcesMost
+
+abbrev pub chainsSize : ℕ
+chainsSize = nextAt + linesMost
+
+abbrev pub linesIn : List ℕ → ℕ
+linesIn ch = getD ch 0 0
+
+abbrev pub firstIn : List ℕ → ℕ → ℕ
+firstIn ch port = getD ch (1 + port) 0
+
+abbrev pub afterIn : List ℕ → ℕ → ℕ
+afterIn ch m = getD ch (nextAt + m) 0
 
 -- the chains of the lines from m on
-pub record Chained (t : List ℕ) (lines m : ℕ) (head next : List ℕ) : Type 0 where
-  pub room : Room head next
-  pub first : (k : ℕ) → k < resourcesMost → getD head k 0 ≡ nextIn lines (has t k) m
-  pub onward : (x : ℕ) → m ≤ x → x < lines → getD next x 0 ≡ nextIn lines (has t (portAt t x)) (suc x)
+pub record Chained (t : List ℕ) (lines m : ℕ) (ch : List ℕ) : Type 0 where
+  pub long : length ch ≡ chainsSize
+  pub many : linesIn ch ≡ lines
+  pub first : (k : ℕ) → k < resourcesMost → firstIn ch k ≡ nextIn lines (has t k) m
+  pub onward : (x : ℕ) → m ≤ x → x < lines → afterIn ch x ≡ nextIn lines (has t (portAt t x)) (suc x)
 
 -- all lines are in their chains
-pub record Linked (t : List ℕ) (lines : ℕ) (head next : List ℕ) : Type 0 where
-  pub tabled : Tabled t lines
-  pub chains : Chained t lines 0 head next
+pub record Linked (t : List ℕ) (ch : List ℕ) : Type 0 where
+  pub tabled : Tabled t (linesIn ch)
+  pub first : (k : ℕ) → k < resourcesMost → firstIn ch k ≡ nextIn (linesIn ch) (has t k) 0
+  pub onward : (x : ℕ) → x < linesIn ch → afterIn ch x ≡ nextIn (linesIn ch) (has t (portAt t x)) (suc x)

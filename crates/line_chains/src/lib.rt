@@ -3,13 +3,25 @@
 ghost use mathlib.Core.Path.{_≡_};
 ghost use Prim.Native.Nat.{ℕ, _<_};
 ghost use lib.ListN.{length, getD};
-ghost use Rattle.model.specs.Sizes.{linesMost, wordEnd};
-ghost use Rattle.line_chains.specs.Chains.{portAt, Tabled, Room, Chained};
+ghost use Rattle.model.specs.Sizes.{linesMost, resourcesMost, wordEnd};
+ghost use Rattle.line_chains.specs.Chains.{portAt, Tabled, chainsSize, linesIn, firstIn, afterIn, Chained};
 use model::BUFFERS_MOST;
+use model::LINES_MOST;
 use model::LOCAL;
+use model::RESOURCES_MOST;
+
+// How many lines there are; then for each inport its first line; then for each line the next with its inport. Where there is none,
+// that number.
+const FIRST_AT: usize = 1;
+
+const NEXT_AT: usize = FIRST_AT + RESOURCES_MOST;
+
+pub const CHAINS_SIZE: usize = NEXT_AT + LINES_MOST;
+
+pub type Chains = [u16; CHAINS_SIZE];
 
 // An entry of a chain as a number, and back.
-pub fn wide(x: u16) -> usize
+fn wide(x: u16) -> usize
     ensures { λ r. ⌜ r ≡ x ⌝ }
 {
     x as usize
@@ -44,19 +56,39 @@ fn fill(l: &mut [u16], x: u16)
     }
 }
 
-// Puts the lines into chains, from the last to the first. head[k] is the first line with inport k,
-// next[m] the next one behind line m with its inport, and `lines` where there is none.
-pub fn link(t: &[u8], lines: usize, head: &mut [u16], next: &mut [u16])
-    requires { ⌜ Tabled (now t) lines ⌝ }
-    requires { ⌜ Room (now head) (now next) ⌝ }
-    ensures { λ r. ⌜ Chained (now (t .entry)) lines 0 (now (head .exit)) (now (next .exit)) ⌝ }
+// How many lines there are, the first with this inport, and the next behind line m with its inport.
+pub fn lines(ch: &Chains) -> usize
+    ensures { λ r. ⌜ r ≡ linesIn (now (ch .entry)) ⌝ }
 {
-    fill(head, narrow(lines));
+    wide(ch[0])
+}
+
+pub fn first(ch: &Chains, port: usize) -> usize
+    requires { ⌜ port < resourcesMost ⌝ }
+    ensures { λ r. ⌜ r ≡ firstIn (now (ch .entry)) port ⌝ }
+{
+    wide(ch[FIRST_AT + port])
+}
+
+pub fn next(ch: &Chains, m: usize) -> usize
+    requires { ⌜ m < linesMost ⌝ }
+    ensures { λ r. ⌜ r ≡ afterIn (now (ch .entry)) m ⌝ }
+{
+    wide(ch[NEXT_AT + m])
+}
+
+// Puts the lines into chains, from the last to the first.
+pub fn link(t: &[u8], lines: usize, ch: &mut [u16])
+    requires { ⌜ Tabled (now t) lines ⌝ }
+    requires { ⌜ length (now ch) ≡ chainsSize ⌝ }
+    ensures { λ r. ⌜ Chained (now (t .entry)) lines 0 (now (ch .exit)) ⌝ }
+{
+    fill(ch, narrow(lines));
     let mut m = lines;
     while 0 < m {
         m -= 1;
         let port = port_at(t, m);
-        next[m] = head[port];
-        head[port] = narrow(m);
+        ch[NEXT_AT + m] = ch[FIRST_AT + port];
+        ch[FIRST_AT + port] = narrow(m);
     }
 }

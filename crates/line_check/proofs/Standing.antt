@@ -1,36 +1,34 @@
 -- What the check over rows and bytes says of the request and its offsets: a line meets a series where their ports are one and some slot matches.
 -- And what callers know of rows and lines that were read. Assumes nothing.
-use Prim.Native.Nat.{ℕ, zero, suc, _+_, _-_, _%_, _≤_, _<_}
+use Prim.Native.Nat.{ℕ, zero, suc, _-_, _%_, _≤_, _<_}
 use mathlib.Core.Path.{_≡_, refl, sym, ap, ap₂, _∙_}
 use mathlib.Core.Logic.{_⊎_, inl, inr}
-use mathlib.Core.Bool.{Bool, true, false, cond}
+use mathlib.Core.Bool.{Bool, true, false}
 use mathlib.Core.List.{List, [], _∷_}
 use mathlib.Core.Option.{Option, none, some}
-use native.Mathlib.Numerals.{add-one}
 use native.Mathlib.Omega.{arith}
 use borrow.Author.Tests.{eq-eqb, ne-eqb, ltb-true}
 use lib.Dec.{eqb, eqb→eq, ltb}
 use lib.ListN.{length, getD}
-use Rattle.model.specs.Sizes.{buffersMost, resourcesMost, wordEnd, local, inportOf, tableFile}
+use Rattle.model.specs.Sizes.{buffersMost, resourcesMost, local, inportOf, tableFile}
 use Rattle.model.specs.Divisor.{gcd}
 use Rattle.model.specs.Tests.{_and_, neg, least, given, _else_, first}
-use Rattle.model.specs.Network.{Network, Request, Circuit, send, circuitOf, hops, hop, inport, toRouter, after}
+use Rattle.model.specs.Network.{Network, Request, Circuit, Send, send, circuitOf, hops, hop, inport, toRouter, after}
 use Rattle.model.specs.Holding.{offsetsOf}
 use Rattle.model.specs.Lines.{Line, Series, lineOf, meets?, serves?, series, offsetOf, oneLine, partLine, twoLine, seriesFault, linesFault}
 use Rattle.model.specs.Reading.{tableWalk, table}
 use Rattle.model.specs.Answers.{damage}
-use Rattle.model.specs.declared.Answer.the-variants.{Unserved as UnservedAnswer, Partly as PartlyAnswer, Twice as TwiceAnswer, Astray as AstrayAnswer}
 use Rattle.model.proofs.Tests.{and→, →and, eq→eqb, least-is, least-unique, bool-same}
-use Rattle.model.proofs.Sound.{SoundRequest, hop-small}
+use Rattle.model.specs.Sound.{SoundRequest}
+use Rattle.model.proofs.Sound.{hop-small}
 use Rattle.model.proofs.Readers.{table-sound}
 use Rattle.file_table.specs.Parts.{LineIn, LeadsTo, GoodLine}
 use Rattle.file_table.proofs.Parts.{line-is, line-good}
-use Rattle.plan.specs.Rows.{usesOf, useOf, placeOf, RowsOf}
-use Rattle.plan.proofs.Uses.{uses-are, use-first, use-hop}
-use Rattle.line_chains.specs.Chains.{portOf, portAt, lineIn, has, Tabled}
-use Rattle.line_series.specs.Judging.{agreesOf, coversOf, meetsAt, partAt, oneOf, againAt, metBy, judgedOf, judgedAnswer}
-use Rattle.line_check.specs.Checks.{firstIn, hopFault, offsetFault, circuitFault, rowFault, Row, Ready, Facts}
-use Rattle.line_series.specs.declared.Judged.the-variants.{Fine, Unserved, Partly, Twice, Astray}
+use Rattle.plan.specs.Plan.{circuitsIn, sendCount, portOf, portIn, sendIn, Stands}
+use Rattle.plan.proofs.Laws.{cycle-is, send-count-is, send-is, port-is}
+use Rattle.line_chains.specs.Chains.{portAt, lineIn, has, Tabled}
+use Rattle.line_series.specs.Judging.{agreesOf, coversOf, meetsAt, partAt, oneOf, againAt, metBy, faultBy, faultAt, hopFault}
+use Rattle.line_check.specs.Checks.{firstOf, offsetFault, circuitFault, Facts}
 
 -- ---- tests and searches that agree
 
@@ -54,8 +52,8 @@ module _ {A : Type 0} where
       ap₂ _else_ (same 0 (omega arith)) (first-same n (λ i. f (suc i)) (λ i. g (suc i)) (λ i h. same (suc i) (omega arith)))
 
   -- those of a list by number
-  first-in : (os : List ℕ) (f : ℕ → Option A) → firstIn os f ≡ first (length os) (λ o. f (getD os o 0))
-  unfolding firstIn first
+  first-in : (os : List ℕ) (f : ℕ → Option A) → firstOf os f ≡ first (length os) (λ o. f (getD os o 0))
+  unfolding firstOf first
   first-in [] f = refl
   first-in (o ∷ os) f = ap (λ x. f o else x) (first-in os f)
 
@@ -67,11 +65,9 @@ data AtPort (net : Network) (s : Series) (port : ℕ) : Type 0 where
   at-buffer : s .inp ≡ port → port < buffersMost → toRouter net port ≡ s .router → AtPort net s port
 
 port-is-local : (router i : ℕ) → i ≡ local → portOf router i ≡ inportOf router
-unfolding portOf
 port-is-local router i e = rw (eq-eqb i local e) refl
 
 port-is-buffer : (router i : ℕ) → i < buffersMost → portOf router i ≡ i
-unfolding portOf
 port-is-buffer router i h = rw (ne-eqb i local (λ e. omega arith)) refl
 
 module _ (net : Network) (small : length (net .links) ≤ buffersMost) (l : Line) (good : GoodLine net l) (s : Series) (port : ℕ) where
@@ -174,117 +170,68 @@ module _ (q : Request) (sound : SoundRequest q) (t : List ℕ) (whole : damage t
     unfolding twoLine againAt
     two-same = least-same (length Lines) _ _ (λ m h. ap₂ _and_ (ap (λ n. ltb n m) one-same) (meets-same m h))
 
-  -- the four tests in order, as the model makes them
-  in-order : (c a j one part two : ℕ) (b₁ b₂ b₃ b₄ b₅ : Bool) → (b₁ ≡ true → b₄ ≡ b₅)
-      → judgedAnswer c a j (cond b₁ (cond b₂ (Partly part) (cond b₃ (Twice two) (cond b₄ Fine (Astray one)))) Unserved)
-      ≡ given (neg b₁) (UnservedAnswer c a j) else given b₂ (PartlyAnswer c a j part) else given b₃ (TwiceAnswer c a j two) else given (neg b₅) (AstrayAnswer c a j one)
+  -- the last test asks for a line that is there
+  told-same : (n one part two led led′ out c a j : ℕ) → (one < n → led ≡ led′)
+      → faultBy n (record { one = one; part = part; two = two }) led out c a j ≡ faultBy n (record { one = one; part = part; two = two }) led′ out c a j
   unfolding given _else_ neg
-  in-order c a j one part two true true b₃ b₄ b₅ e = refl
-  in-order c a j one part two true false true b₄ b₅ e = refl
-  in-order c a j one part two true false false true b₅ e = rw (← e refl) refl
-  in-order c a j one part two true false false false b₅ e = rw (← e refl) refl
-  in-order c a j one part two false b₂ b₃ b₄ b₅ e = refl
+  told-same n one part two led led′ out c a j e = pick (ltb one n) refl
+    where
+      pick : (b : Bool) → ltb one n ≡ b
+          → faultBy n (record { one = one; part = part; two = two }) led out c a j ≡ faultBy n (record { one = one; part = part; two = two }) led′ out c a j
+      pick true f = rw (e (ltb-true one n f)) refl
+      pick false f = rw f refl
 
-  -- what is judged of a series is its fault
-  judged-is : (c a j port : ℕ) → AtPort net (series q c a j) port
-      → judgedAnswer c a j (judgedOf t (length Lines) port (series q c a j .cycle) (series q c a j .start) (series q c a j .out)) ≡ seriesFault q Lines c a j
-  unfolding judgedOf metBy seriesFault
-  judged-is c a j port at =
+  -- what is found of a series over the bytes is its fault
+  fault-same : (c a j port : ℕ) → AtPort net (series q c a j) port
+      → faultAt t (length Lines) port (series q c a j .cycle) (series q c a j .start) (series q c a j .out) c a j ≡ seriesFault q Lines c a j
+  unfolding faultAt metBy seriesFault
+  fault-same c a j port at =
       let s = series q c a j in
       let n = length Lines in
       rw (one-same s port at, parts-same s port at, two-same s port at)
-      (in-order c a j _ _ _ _ _ _ _ _ (λ e.
-      let one = oneOf t n port (s .cycle) (s .start) in
-      ap (λ (l : Line). eqb (l .out) (s .out)) (sym (line-is net t one (line-at one (ltb-true one n e))))))
+      (told-same n _ _ _ _ _ _ c a j (λ l. ap (λ (x : Line). x .out) (sym (line-is net t _ (line-at _ l)))))
 
--- ---- the rows of a request
+-- ---- a plan
 
-module _ (q : Request) (assigned : List (List ℕ)) (n : ℕ) (cycles counts whats afters masks t : List ℕ) (lines : ℕ)
-    (f : Facts q assigned n cycles counts whats afters masks t lines) where
-  stands : RowsOf q n cycles counts whats afters
-  stands = f .planned .stands
+module _ (q : Request) (assigned : List (List ℕ)) (p m t : List ℕ) (lines : ℕ) (f : Facts q assigned p m t lines) where
+  stands : Stands q p
+  stands = f .booked .stands
 
-  sound : SoundRequest q
-  sound = stands .sound
+  module _ (c : ℕ) (low : c < circuitsIn p) where
+    abbrev C : Circuit
+    C = circuitOf q c
 
-  abbrev C : ℕ → Circuit
-  C c = circuitOf q c
-
-  module _ (c : ℕ) (low : c < n) where
     listed : c < length (q .circuits)
     listed = omega (arith, stands .many)
 
-    hops-are : getD counts c 0 - 1 ≡ hops (C c)
-    hops-are = omega (arith, stands .rows .count c low, uses-are (q .network) (C c))
-
-    module _ (j : ℕ) (on : j < hops (C c)) where
-      inside : j + 1 < usesOf q c
-      inside = omega (arith, uses-are (q .network) (C c))
-
-      out-is : getD whats (placeOf c (j + 1)) 0 ≡ hop (C c) j
-      out-is = stands .rows .what c (j + 1) low inside ∙ ap (λ i. useOf q c i .what) (add-one j) ∙ ap (λ u. u .what) (use-hop q c j on)
-
-      after-is : getD afters (placeOf c (j + 1)) 0 ≡ after (q .network) (C c) j
-      after-is = stands .rows .after c (j + 1) low inside ∙ ap (λ i. useOf q c i .after) (add-one j) ∙ ap (λ u. u .after) (use-hop q c j on)
-
-    port-at : (a j : ℕ) → j < hops (C c) → AtPort (q .network) (series q c a j) (getD whats (placeOf c j) 0)
+    port-at : (a j : ℕ) → j < sendCount p c → AtPort (q .network) (series q c a j) (portIn p c j)
     unfolding series send inport
-    port-at a zero on = at-local refl (stands .rows .what c 0 low (omega (arith, uses-are (q .network) (C c))) ∙ ap (λ u. u .what) (use-first q c))
+    port-at a zero on = at-local refl (port-is stands low 0 on)
     port-at a (suc i) on =
-        let e : getD whats (placeOf c (suc i)) 0 ≡ hop (C c) i =
-        stands .rows .what c (suc i) low (omega (arith, uses-are (q .network) (C c))) ∙ ap (λ u. u .what) (use-hop q c i (omega arith)) in
-        at-buffer (sym e) (omega (arith, e, hop-small q (sound) c listed i (omega arith)))
-        (ap (λ b. toRouter (q .network) b) e ∙ sound .path c listed .joined i on)
+        let there : suc i < hops C = omega (arith, send-count-is stands low) in
+        let small = hop-small q (stands .sound) c listed i (omega arith) in
+        let e : portIn p c (suc i) ≡ hop C i = port-is stands low (suc i) on ∙ port-is-buffer _ _ small in
+        at-buffer (sym e) (omega arith) (ap (λ b. toRouter (q .network) b) e ∙ stands .sound .path c listed .joined i there)
 
-    hop-is : (a j : ℕ) → j < hops (C c) → hopFault whats afters t lines (getD cycles c 0) c a j ≡ seriesFault q (table (q .network) t) c a j
-    unfolding hopFault series send
-    hop-is a j on = rw (f .lined, stands .rows .cycle c low, after-is j on, out-is j on) (judged-is q (sound) t (f .whole) c a j _ (port-at a j on))
+    hop-is : (a j : ℕ) → j < sendCount p c → hopFault p t lines c a j ≡ seriesFault q (table (q .network) t) c a j
+    unfolding hopFault series sendIn
+    hop-is a j on =
+        let s = send-is stands low j on in
+        rw (f .lined, cycle-is stands low, ap (λ (x : Send). x .out) s, ap (λ (x : Send). x .after) s)
+        (fault-same q (stands .sound) t (f .whole) c a j _ (port-at a j on))
 
-    row-is : rowFault whats afters t lines cycles counts masks c
-        ≡ first (length (offsetsOf assigned c)) (λ o. first (hops (C c)) (λ j. seriesFault q (table (q .network) t) c (offsetOf assigned c o) j))
-    unfolding rowFault circuitFault offsetFault
-    row-is =
-        rw (hops-are, ← f .planned .masked .taken c low)
-        (first-in (offsetsOf assigned c) (λ a. first (hops (C c)) (hopFault whats afters t lines (getD cycles c 0) c a))
-        ∙ first-same _ _ _ (λ o h. first-same _ _ _ (λ j on. hop-is _ j on)))
+    circuit-is : circuitFault p m t lines c
+        ≡ first (length (offsetsOf assigned c)) (λ o. first (hops C) (λ j. seriesFault q (table (q .network) t) c (offsetOf assigned c o) j))
+    unfolding circuitFault offsetFault
+    circuit-is =
+        rw (f .booked .taken c low, ← send-count-is stands low)
+        (first-in (offsetsOf assigned c) (offsetFault p t lines c) ∙ first-same _ _ _ (λ o h. first-same _ _ _ (λ j on. hop-is _ j on)))
 
-    port-small : (j : ℕ) → j < hops (C c) → getD whats (placeOf c j) 0 < resourcesMost
-    unfolding series send
-    port-small j on = pick (port-at 0 j on)
-      where
-        pick : AtPort (q .network) (series q c 0 j) (getD whats (placeOf c j) 0) → getD whats (placeOf c j) 0 < resourcesMost
-        pick (at-local i e) = omega (arith, e, sound .owned _ (sound .path c listed .known j on), sound .routers)
-        pick (at-buffer i h to) = omega arith
-
-    after-small : (j : ℕ) → j < hops (C c) → getD afters (placeOf c (j + 1)) 0 < wordEnd
-    unfolding after
-    after-small j on = omega (arith, after-is j on, sound .path c listed .few)
-
-    row : Row whats afters (getD cycles c 0) (getD counts c 0 - 1) c
-    row = rw (hops-are, stands .rows .cycle c low) (record {
-      cycle-good = record { low = sound .path c listed .cycle; high = sound .path c listed .short };
-      low = omega (arith, listed, sound .circuits);
-      whats-long = omega (arith, listed, sound .circuits, stands .rows .sized .whats-long, sound .path c listed .few);
-      afters-long = omega (arith, listed, sound .circuits, stands .rows .sized .afters-long, sound .path c listed .few);
-      port = port-small;
-      after = after-small;
-    })
-
-  -- what the check finds over the rows is the fault of the request's lines
-  pub faults-are : first n (rowFault whats afters t lines cycles counts masks) ≡ linesFault q assigned (table (q .network) t)
+  -- what the check finds over the plan is the fault of the request's lines
+  pub faults-are : first (circuitsIn p) (circuitFault p m t lines) ≡ linesFault q assigned (table (q .network) t)
   unfolding linesFault
-  faults-are = rw (stands .many) (first-same n _ _ row-is)
-
-  -- the rows are fit for the check
-  pub ready : Ready n cycles counts whats afters masks
-  ready = record {
-    cycles-long = omega (arith, stands .many, sound .circuits, stands .rows .sized .cycles-long);
-    counts-long = omega (arith, stands .many, sound .circuits, stands .rows .sized .counts-long);
-    masks-long = omega (arith, stands .many, sound .circuits, f .planned .masked .masks-long);
-    some-hop = λ c h. omega (arith, stands .rows .count c h, uses-are (q .network) (C c));
-    row = row;
-  }
+  faults-are = rw (stands .many) (first-same (length (q .circuits)) _ _ (λ c h. circuit-is c (rw (stands .many) h)))
 
   -- and the lines are fit for `link`
   pub lines-fit : Tabled t lines
-  lines-fit = rw (f .lined) (tabled q (sound) t (f .whole))
+  lines-fit = rw (f .lined) (tabled q (stands .sound) t (f .whole))

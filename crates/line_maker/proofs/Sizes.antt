@@ -1,5 +1,5 @@
--- How many bytes the lines of a table have, by the rows; and that they are few. Assumes nothing.
-use Prim.Native.Nat.{ℕ, zero, suc, _+_, _*_, _-_, _/_, _%_, _≤_, _<_}
+-- How many bytes the lines of a table have; and that they are few. Assumes nothing.
+use Prim.Native.Nat.{ℕ, zero, suc, _+_, _*_, _/_, _%_, _≤_}
 use mathlib.Core.Path.{_≡_, refl, ap, _∙_}
 use mathlib.Core.Bool.{Bool, true, false, cond}
 use mathlib.Core.List.{List, [], _∷_, map}
@@ -10,10 +10,11 @@ use lib.ListN.{length, getD, length-append}
 use Rattle.model.specs.Sizes.{cycleMost, hopsMost, headSize, lineSize}
 use Rattle.model.specs.Tests.{upTo, joined, sum}
 use Rattle.model.specs.Bytes.{recordOf}
+use Rattle.model.proofs.Tests.{length-upTo, upTo-same}
 use Rattle.num_mask.specs.Bits.{places, offsets}
-use Rattle.plan.specs.Rows.{usesMost}
-use Rattle.line_maker.specs.Files.{hopBytes, offsetBytes, circuitBytes, rowBytes, rowSize, tableSize, CountsFit}
-use Rattle.file_writer.proofs.Lists.{upTo-same, joined-length, sum-more}
+use Rattle.plan.specs.Plan.{circuitsIn, sendCount, Fit}
+use Rattle.file_writer.proofs.Lists.{map-upTo, joined-length, sum-more}
+use Rattle.line_maker.specs.Files.{sendBytes, offsetBytes, circuitBytes, linesSize, tableSize}
 
 -- ---- a mask has few offsets
 
@@ -26,57 +27,57 @@ places-few (suc k) s m = go (eqb (m % 2) 1) (places-few k (suc s) (m / 2))
     go true h = omega arith
     go false h = omega arith
 
-pub offsets-few : (m : ℕ) → length (offsets m) ≤ cycleMost
+offsets-few : (m : ℕ) → length (offsets m) ≤ cycleMost
 unfolding offsets
 offsets-few m = places-few cycleMost 0 m
 
-pub row-few : {n : ℕ} {counts masks : List ℕ} → CountsFit n counts masks → (c : ℕ) → c < n → {slots : ℕ} → slots ≡ length (offsets (getD masks c 0))
-    → slots * (getD counts c 0 - 1) ≤ cycleMost * hopsMost
-row-few {counts = counts} {masks} f c h {slots} e =
-    mul-le-mul {n₂ = cycleMost} {m₂ = hopsMost} (omega (arith, offsets-few (getD masks c 0))) (omega (arith, f .most c h))
+pub circuit-few : {p : List ℕ} {c : ℕ} → Fit p c → (mask : ℕ) {slots sends : ℕ} → slots ≡ length (offsets mask) → sends ≡ sendCount p c
+    → slots * sends ≤ cycleMost * hopsMost
+circuit-few f mask is many = mul-le-mul {n₂ = cycleMost} {m₂ = hopsMost} (omega (arith, offsets-few mask)) (omega (arith, f .sends-few))
 
 -- ---- the bytes of the lines
 
 -- lists of one length
-even-upTo : (n : ℕ) (f : ℕ → List ℕ) (k : ℕ) → ((i : ℕ) → length (f i) ≡ k) → length (joined (upTo n f)) ≡ n * k
-unfolding upTo joined
-even-upTo zero f k e = omega arith
-even-upTo (suc n) f k e = omega (arith, length-append (f 0) (joined (upTo n (λ i. f (suc i)))), e 0, even-upTo n (λ i. f (suc i)) k (λ i. e (suc i)))
-
 even-map : (g : ℕ → List ℕ) (l : List ℕ) (k : ℕ) → ((a : ℕ) → length (g a) ≡ k) → length (joined (map g l)) ≡ length l * k
 unfolding joined
 even-map g [] k e = omega arith
 even-map g (a ∷ l) k e = omega (arith, length-append (g a) (joined (map g l)), e a, even-map g l k e)
 
-module _ (req whats afters : List ℕ) (first hops cycle : ℕ) where
-  pub hop-length : (a j : ℕ) → length (hopBytes req whats afters first cycle a j) ≡ headSize + lineSize
-  unfolding hopBytes recordOf
-  hop-length a j = refl
+even-upTo : (n : ℕ) (f : ℕ → List ℕ) (k : ℕ) → ((i : ℕ) → length (f i) ≡ k) → length (joined (upTo n f)) ≡ n * k
+even-upTo n f k e = rw (← map-upTo f n (λ i. i)) (even-map f (upTo n (λ i. i)) k e ∙ ap (λ x. x * k) (length-upTo n _))
 
-  pub offset-length : (a : ℕ) → length (offsetBytes req whats afters first hops cycle a) ≡ hops * (headSize + lineSize)
+module _ (p : List ℕ) (c : ℕ) where
+  pub send-length : (a j : ℕ) → length (sendBytes p c a j) ≡ headSize + lineSize
+  unfolding sendBytes recordOf
+  send-length a j = refl
+
+  offset-length : (a : ℕ) → length (offsetBytes p c a) ≡ sendCount p c * (headSize + lineSize)
   unfolding offsetBytes
-  offset-length a = even-upTo hops (hopBytes req whats afters first cycle a) (headSize + lineSize) (hop-length a)
+  offset-length a = even-upTo (sendCount p c) (sendBytes p c a) (headSize + lineSize) (send-length a)
 
-  pub circuit-length : (mask : ℕ) → length (circuitBytes req whats afters first hops cycle mask) ≡ length (offsets mask) * hops * (headSize + lineSize)
+  circuit-length : (mask : ℕ) → length (circuitBytes p c mask) ≡ length (offsets mask) * sendCount p c * (headSize + lineSize)
   unfolding circuitBytes
-  circuit-length mask = even-map (offsetBytes req whats afters first hops cycle) (offsets mask) (hops * (headSize + lineSize)) offset-length ∙ omega arith
+  circuit-length mask = even-map (offsetBytes p c) (offsets mask) (sendCount p c * (headSize + lineSize)) offset-length ∙ omega arith
 
-pub table-length : (req : List ℕ) (n : ℕ) (cycles counts whats afters masks : List ℕ)
-    → tableSize n counts masks ≡ length (joined (upTo n (rowBytes req cycles counts whats afters masks))) + headSize
-unfolding tableSize
-table-length req n cycles counts whats afters masks =
-    let row = rowBytes req cycles counts whats afters masks in
-    let long : (c : ℕ) → c < n → length (row c) ≡ rowSize counts masks c = λ c h.
-    circuit-length req whats afters (c * usesMost) (getD counts c 0 - 1) (getD cycles c 0) (getD masks c 0) in
-    omega (arith, joined-length n row, ap sum (upTo-same n (λ c. length (row c)) (rowSize counts masks) long))
+module _ (p m : List ℕ) where
+  -- the lines of circuit c, and of all
+  abbrev pub partOf : ℕ → List ℕ
+  partOf c = circuitBytes p c (getD m c 0)
 
--- ---- for the loop that sums
+  abbrev pub parts : List ℕ
+  parts = joined (upTo (circuitsIn p) partOf)
 
-module _ (counts masks : List ℕ) (c total : ℕ) (e : total ≡ headSize + sum (upTo c (rowSize counts masks))) where
-  pub total-more : {slots : ℕ} → slots ≡ length (offsets (getD masks c 0))
-      → total + slots * (getD counts c 0 - 1) * (headSize + lineSize) ≡ headSize + sum (upTo (c + 1) (rowSize counts masks))
-  total-more {slots} h = omega (arith, sum-more c (rowSize counts masks), ap (λ s. s * (getD counts c 0 - 1) * (headSize + lineSize)) h)
-
-  pub total-end : (n : ℕ) → c ≡ n → total ≡ tableSize n counts masks
+  pub table-length : tableSize p m ≡ length parts + headSize
   unfolding tableSize
-  total-end n h = e ∙ ap (λ k. headSize + sum (upTo k (rowSize counts masks))) h
+  table-length =
+      omega (arith, joined-length (circuitsIn p) partOf, ap sum (upTo-same (circuitsIn p) (λ c. length (partOf c)) (linesSize p m) (λ c h. circuit-length p c (getD m c 0))))
+
+  -- ---- for the loop that sums
+
+  pub total-more : (c : ℕ) {total slots sends : ℕ} → total ≡ headSize + sum (upTo c (linesSize p m)) → slots ≡ length (offsets (getD m c 0)) → sends ≡ sendCount p c
+      → total + slots * sends * (headSize + lineSize) ≡ headSize + sum (upTo (c + 1) (linesSize p m))
+  total-more c e is many = rw (is, many) (omega (arith, sum-more c (linesSize p m)))
+
+  pub total-end : {c n total : ℕ} → c ≡ n → n ≡ circuitsIn p → total ≡ headSize + sum (upTo c (linesSize p m)) → total ≡ tableSize p m
+  unfolding tableSize
+  total-end h is e = e ∙ ap (λ k. headSize + sum (upTo k (linesSize p m))) (h ∙ is)

@@ -1,19 +1,20 @@
 // The table as a file: the lines that slots need, laid into an area with room. Assumes nothing.
 ghost use mathlib.Core.Path.{_≡_};
 ghost use Prim.Native.Nat.{_+_, _≤_, _<_};
-ghost use lib.ListN.{length};
+ghost use lib.ListN.{length, getD};
 ghost use Rattle.model.specs.Sizes.{headSize, lineSize, cycleMost};
+ghost use Rattle.plan.specs.Plan.{sendCount, Fit, Usable};
 ghost use Rattle.file_writer.specs.Pasting.{pasted, Laid};
-ghost use Rattle.line_maker.specs.Files.{lineRecord, inpAt, hopBytes, offsetBytes, circuitBytes, tableSize, UsesFit, CountsFit, TableFits, WroteTable};
+ghost use Rattle.line_maker.specs.Files.{lineRecord, sendBytes, offsetBytes, circuitBytes, tableSize, WroteTable};
 use model::HEAD_SIZE;
 use model::IN_AT;
 use model::LINE_BYTES;
 use model::LINE_KIND;
 use model::LINE_SIZE;
-use model::LOCAL;
 use model::OUT_AT;
 use model::ROUTER_AT;
-use model::USES_MOST;
+use plan::Masks;
+use plan::Plan;
 
 // The record of a line.
 fn put_line(out: &mut [u8], at: usize, router: u8, period: u8, slot: u8, inp: usize, to: usize)
@@ -26,134 +27,81 @@ fn put_line(out: &mut [u8], at: usize, router: u8, period: u8, slot: u8, inp: us
     file_writer::put_word(out, at + OUT_AT, to);
 }
 
-// The inport of hop j: the local one, and then the buffer before.
-fn inport(whats: &[usize], first: usize, j: usize) -> usize
-    requires { ⌜ first + j < length (now whats) ⌝ }
-    ensures { λ r. ⌜ r ≡ inpAt (now (whats .entry)) first j ⌝ }
-{
-    if j == 0 {
-        return LOCAL;
-    }
-    whats[first + j]
-}
-
 // How many bytes the table will have.
-pub fn table_size(n: usize, counts: &[usize], masks: &[u32]) -> usize
-    requires { ⌜ CountsFit n (now counts) (now masks) ⌝ }
-    ensures { λ r. ⌜ r ≡ tableSize n (now (counts .entry)) (now (masks .entry)) ⌝ }
+pub fn table_size(p: &Plan, m: &Masks) -> usize
+    requires { ⌜ Usable (now p) ⌝ }
+    ensures { λ r. ⌜ r ≡ tableSize (now (p .entry)) (now (m .entry)) ⌝ }
 {
+    let n = plan::circuits(p);
     let mut total = HEAD_SIZE;
     for c in 0..n {
-        let slots = num_mask::size(masks[c]) as usize;
-        total += slots * (counts[c] - 1) * LINE_BYTES;
+        let slots = num_mask::size(m[c]) as usize;
+        total += slots * plan::sends(p, c) * LINE_BYTES;
     }
     total
 }
 
-// The line of hop j of the circuit whose uses begin at `first`, with offset a; and the place behind it.
-fn put_hop(
-    req: &[u8],
-    whats: &[usize],
-    afters: &[usize],
-    first: usize,
-    hops: usize,
-    cycle: u32,
-    a: u32,
-    j: usize,
-    out: &mut [u8],
-    at: usize,
-) -> usize
-    requires { ⌜ UsesFit (now whats) (now afters) first hops cycle ⌝ }
-    requires { ⌜ (a < cycleMost) × (j < hops) × (at + (headSize + lineSize) ≤ length (now out)) ⌝ }
-    ensures { λ r. ⌜ Laid (now (out .entry)) at (hopBytes (now (req .entry)) (now (whats .entry)) (now (afters .entry)) first cycle a j) (now (out .exit)) r ⌝ }
+// The line of send j of circuit c with offset a; and the place behind it.
+fn put_send(p: &Plan, c: usize, a: u32, j: usize, out: &mut [u8], at: usize) -> usize
+    requires { ⌜ Fit (now p) c × (a < cycleMost) × (j < sendCount (now p) c) ⌝ }
+    requires { ⌜ at + (headSize + lineSize) ≤ length (now out) ⌝ }
+    ensures { λ r. ⌜ Laid (now (out .entry)) at (sendBytes (now (p .entry)) c a j) (now (out .exit)) r ⌝ }
 {
-    let u = first + j + 1;
-    let to = whats[u];
-    let d = cycle as usize;
-    let router = file_records::from_of(req, to) as u8;
-    let slot = ((a as usize + afters[u]) % d) as u8;
-    let inp = inport(whats, first, j);
-    put_line(out, at, router, cycle as u8, slot, inp, to);
+    let d = plan::cycle(p, c);
+    let router = plan::router(p, c, j) as u8;
+    let slot = ((a as usize + plan::sent(p, c, j)) % d) as u8;
+    put_line(
+        out,
+        at,
+        router,
+        d as u8,
+        slot,
+        plan::inp(p, c, j),
+        plan::out(p, c, j),
+    );
     at + LINE_BYTES
 }
 
-// The lines of offset a: hop by hop.
-fn put_hops(
-    req: &[u8],
-    whats: &[usize],
-    afters: &[usize],
-    first: usize,
-    hops: usize,
-    cycle: u32,
-    a: u32,
-    out: &mut [u8],
-    at: usize,
-) -> usize
-    requires { ⌜ UsesFit (now whats) (now afters) first hops cycle ⌝ }
-    requires { ⌜ (a < cycleMost) × (at + length (offsetBytes (now req) (now whats) (now afters) first hops cycle a) ≤ length (now out)) ⌝ }
-    ensures { λ r. ⌜ Laid (now (out .entry)) at (offsetBytes (now (req .entry)) (now (whats .entry)) (now (afters .entry)) first hops cycle a) (now (out .exit)) r ⌝ }
+// The lines of offset a: send by send.
+fn put_sends(p: &Plan, c: usize, a: u32, out: &mut [u8], at: usize) -> usize
+    requires { ⌜ Fit (now p) c × (a < cycleMost) ⌝ }
+    requires { ⌜ at + length (offsetBytes (now p) c a) ≤ length (now out) ⌝ }
+    ensures { λ r. ⌜ Laid (now (out .entry)) at (offsetBytes (now (p .entry)) c a) (now (out .exit)) r ⌝ }
 {
-    let mut p = at;
-    for j in 0..hops {
-        p = put_hop(req, whats, afters, first, hops, cycle, a, j, out, p);
+    let n = plan::sends(p, c);
+    let mut next = at;
+    for j in 0..n {
+        next = put_send(p, c, a, j, out, next);
     }
-    p
+    next
 }
 
-// The lines of a circuit: offset by offset, rising.
-fn put_circuit(
-    req: &[u8],
-    whats: &[usize],
-    afters: &[usize],
-    first: usize,
-    hops: usize,
-    cycle: u32,
-    mask: u32,
-    out: &mut [u8],
-    at: usize,
-) -> usize
-    requires { ⌜ UsesFit (now whats) (now afters) first hops cycle ⌝ }
-    requires { ⌜ at + length (circuitBytes (now req) (now whats) (now afters) first hops cycle mask) ≤ length (now out) ⌝ }
-    ensures { λ r. ⌜ Laid (now (out .entry)) at (circuitBytes (now (req .entry)) (now (whats .entry)) (now (afters .entry)) first hops cycle mask) (now (out .exit)) r ⌝ }
+// The lines of circuit c: offset by offset, rising.
+fn put_circuit(p: &Plan, m: &Masks, c: usize, out: &mut [u8], at: usize) -> usize
+    requires { ⌜ Fit (now p) c ⌝ }
+    requires { ⌜ at + length (circuitBytes (now p) c (getD (now m) c 0)) ≤ length (now out) ⌝ }
+    ensures { λ r. ⌜ Laid (now (out .entry)) at (circuitBytes (now (p .entry)) c (getD (now (m .entry)) c 0)) (now (out .exit)) r ⌝ }
 {
-    let mut left = mask;
-    let mut p = at;
+    let mut left = m[c];
+    let mut next = at;
     while left != 0 {
         let a = num_mask::lowest(left);
-        p = put_hops(req, whats, afters, first, hops, cycle, a, out, p);
+        next = put_sends(p, c, a, out, next);
         left = num_mask::without(left, a);
     }
-    p
+    next
 }
 
 // The table: the lines of each circuit, and the end record. It says how many bytes that is.
-pub fn write_table(
-    req: &[u8],
-    n: usize,
-    cycles: &[u32],
-    counts: &[usize],
-    whats: &[usize],
-    afters: &[usize],
-    masks: &[u32],
-    out: &mut [u8],
-) -> usize
-    requires { ⌜ TableFits n (now cycles) (now counts) (now whats) (now afters) (now masks) (now out) ⌝ }
-    ensures { λ r. ⌜ WroteTable (now (req .entry)) n (now (cycles .entry)) (now (counts .entry)) (now (whats .entry)) (now (afters .entry)) (now (masks .entry)) (now (out .entry)) (now (out .exit)) r ⌝ }
+pub fn write_table(p: &Plan, m: &Masks, out: &mut [u8]) -> usize
+    requires { ⌜ Usable (now p) ⌝ }
+    requires { ⌜ tableSize (now p) (now m) ≤ length (now out) ⌝ }
+    ensures { λ r. ⌜ WroteTable (now (p .entry)) (now (m .entry)) (now (out .entry)) (now (out .exit)) r ⌝ }
 {
+    let n = plan::circuits(p);
     let mut at = 0;
     for c in 0..n {
-        let hops = counts[c] - 1;
-        at = put_circuit(
-            req,
-            whats,
-            afters,
-            c * USES_MOST,
-            hops,
-            cycles[c],
-            masks[c],
-            out,
-            at,
-        );
+        at = put_circuit(p, m, c, out, at);
     }
     file_writer::put_end(out, at)
 }

@@ -4,15 +4,15 @@ use mathlib.Core.Path.{_≡_, refl, sym, ap, _∙_}
 use mathlib.Core.Bool.{Bool, true, false, not, _||_, or-false}
 use mathlib.Core.Logic.{_⊎_, inl, inr}
 use mathlib.Core.List.{List, List·Memᴰ·not-nil, List·Memᴰ·cases-cons}
+use mathlib.Core.Option.{none}
 use native.Mathlib.Nat.{mod-self, mod-eq-of-lt, mod-lt, mod-add-mod, zero-add}
 use native.Mathlib.Decide.{decLt, ℕ-discrete}
 use native.Mathlib.Omega.{arith}
 use borrow.Author.Tests.{lt-ltb, le-ltb, eq-eqb, ne-eqb, not-true}
-use lib.ListN.{getD}
 use lib.Dec.{ltb, eqb}
 use Rattle.line_chains.proofs.Linking.{at-first, at-next}
 use Rattle.model.specs.Sizes.{resourcesMost}
-use Rattle.model.specs.Tests.{_and_, neg, _∈_, least}
+use Rattle.model.specs.Tests.{_and_, neg, _∈_, least, given, _else_}
 use Rattle.model.proofs.Tests.{eq→T, least-is, least-at}
 use Rattle.num_divisor.specs.Common.{Cycle, Common}
 use Rattle.num_mask.specs.Bits.{bit, offsets, Marked, Lowest}
@@ -20,10 +20,10 @@ use Rattle.num_mask.proofs.Laws.{bit-none, marked-kept, marked-new, offsets-in,
 use Rattle.num_cyclic.specs.Ahead.{ahead}
 use Rattle.num_cyclic.proofs.Ahead.{ahead-low, ahead-only}
 use Rattle.file_table.specs.Parts.{Is}
-use Rattle.line_chains.specs.Chains.{lineIn, has, Linked}
+use Rattle.plan.specs.Plan.{cycleIn, portIn, outIn, sentIn}
+use Rattle.line_chains.specs.Chains.{lineIn, has, linesIn, firstIn, afterIn, Linked}
 use Rattle.line_chains.proofs.Chains.{T-false, Next}
-use Rattle.line_series.specs.Judging.{coversOf, meetsAt, partAt, oneOf, againAt, metBy, judgedOf, Folds, AllServed}
-use Rattle.line_series.specs.declared.Judged.the-variants.{Fine}
+use Rattle.line_series.specs.Judging.{coversOf, meetsAt, partAt, oneOf, againAt, metBy, faultAt, hopFault, Folds, Served, AllServed}
 use Rattle.line_series.proofs.Walking.{agrees-here, agrees-same, covers-here, meet-has, and-false}
 
 module _ (t : List ℕ) (lines port cycle after out mask : ℕ) where
@@ -48,8 +48,8 @@ module _ (t : List ℕ) (lines port cycle after out mask : ℕ) where
     pub waiting : (a : ℕ) → a < cycle → bit mask a ≡ true → bit met a ≡ false → (k : ℕ) → k < m → meet a k ≡ false
     pub once : (a : ℕ) → bit met a ≡ true → Once a m
 
-  pub serving-none : (head next : List ℕ) (m : ℕ) → Linked t lines head next → port < resourcesMost → m ≡ getD head port 0 → Serving 0 m
-  serving-none head next m linked h e = record {
+  pub serving-none : (ch : List ℕ) (m : ℕ) → Linked t ch → lines ≡ linesIn ch → port < resourcesMost → m ≡ firstIn ch port → Serving 0 m
+  serving-none ch m linked n h e = record {
     high = x .high;
     on = x .found;
     waiting = λ a l w u k b. meet-has t lines port cycle (a + after) k (x .none-before k (omega arith) b);
@@ -57,13 +57,13 @@ module _ (t : List ℕ) (lines port cycle after out mask : ℕ) where
   }
     where
       x : Next lines (has t port) 0 m
-      x = at-first port linked h e
+      x = rw n (at-first port linked h e)
 
   -- ---- from line m to the next of the chain
 
-  module _ (met m : ℕ) (low : m < lines) (head next : List ℕ) (linked : Linked t lines head next) (g : Serving met m) (m′ : ℕ) (e : m′ ≡ getD next m 0) where
+  module _ (met m : ℕ) (low : m < lines) (ch : List ℕ) (linked : Linked t ch) (n : lines ≡ linesIn ch) (g : Serving met m) (m′ : ℕ) (e : m′ ≡ afterIn ch m) where
     x : Next lines (has t port) (suc m) m′
-    x = at-next port linked low (g .on low) e
+    x = rw n (at-next port linked (rw n at low) (g .on low) e)
 
     pub serving-less : lines - m′ < lines - m
     serving-less = omega (arith, x .low)
@@ -123,7 +123,7 @@ module _ (t : List ℕ) (lines port cycle after out mask : ℕ) where
       -- where it is the cycle, just that of offset a
       module _ (same : period ≡ cycle) (a : ℕ) (ae : a ≡ ahead cycle slot after) where
         early : slot < cycle
-        early = omega (arith, linked .tabled .slot m low, pe .is, se .is)
+        early = omega (arith, linked .tabled .slot m (rw n at low), pe .is, se .is)
 
         a-low : a < cycle
         a-low = rw ae (ahead-low cycle slot after (good .low))
@@ -136,7 +136,7 @@ module _ (t : List ℕ) (lines port cycle after out mask : ℕ) where
 
         meets-is : (b : ℕ) → b < cycle → meet b m ≡ eqb b a
         unfolding meetsAt _and_
-        meets-is b h = rw (g .on low) (sym (agrees-same t m cycle (b + after) period slot d f pe se ((b + after) % cycle) refl same (linked .tabled .slot m low)) ∙ slot-is b h)
+        meets-is b h = rw (g .on low) (sym (agrees-same t m cycle (b + after) period slot d f pe se ((b + after) % cycle) refl same (linked .tabled .slot m (rw n at low))) ∙ slot-is b h)
 
         missed : (b : ℕ) → b < cycle → (b ≡ a → ⊥) → meet b m ≡ false
         missed b h ne = meets-is b h ∙ ne-eqb b a ne
@@ -216,9 +216,9 @@ module _ (t : List ℕ) (lines port cycle after out mask : ℕ) where
         pick (yes s) = rw (one-is, s, le-ltb (o .line) (o .line) (omega arith)) refl
         pick (no ne) = and-false (ltb (oneOf t lines port cycle (a + after)) k) (meet a k) (o .alone k h ne)
 
-    once-fine : judgedOf t lines port cycle (a + after) out ≡ Fine
-    unfolding judgedOf metBy
-    once-fine =
+    once-fine : (c j : ℕ) → faultAt t lines port cycle (a + after) out c a j ≡ none
+    unfolding faultAt metBy given _else_ neg
+    once-fine c j =
         rw (
           one-is,
           lt-ltb (o .line) lines (o .low),
@@ -228,10 +228,16 @@ module _ (t : List ℕ) (lines port cycle after out mask : ℕ) where
         )
         refl
 
-  pub serving-all : (met m : ℕ) → lines ≤ m → Serving met m → met ≡ mask → AllServed t lines port cycle after out mask
-  serving-all met m h g s =
+  pub serving-all : (n met m : ℕ) → lines ≡ n → lines ≤ m → Serving met m → met ≡ mask → Served t n port cycle after out mask
+  serving-all n met m e h g s =
       let all : m ≡ lines = omega (arith, g .high) in
-      record { each = λ a w. once-fine a (rw all at (g .once a (rw s w))) }
+      rw (← e) (record { each = λ a w c j. once-fine a (rw all at (g .once a (rw s w))) c j })
+
+-- as the numbers of a plan
+pub served-at : {p t : List ℕ} {lines c j mask port cycle after out : ℕ} → port ≡ portIn p c j → cycle ≡ cycleIn p c → after ≡ sentIn p c j → out ≡ outIn p c j
+    → Served t lines port cycle after out mask → AllServed p mask t lines c j
+unfolding hopFault
+served-at {c = c} {j = j} e₁ e₂ e₃ e₄ s = record { each = λ a w. rw (← e₁, ← e₂, ← e₃, ← e₄) (s .each a w c j) }
 
 -- ---- the offsets of a mask modulo g: those in `rest` are still to be taken
 

@@ -1,26 +1,27 @@
 -- Laws behind `judge`: how a line is held against a series, and what the walk over the lines of a port has seen. Assumes nothing.
-use Prim.Native.Nat.{ℕ, suc, _-_, _%_, _≤_, _<_}
+use Prim.Native.Nat.{ℕ, suc, _+_, _-_, _%_, _≤_, _<_}
 use mathlib.Core.Path.{_≡_, refl, sym, ap, ap₂, _∙_}
 use mathlib.Core.Bool.{Bool, true, false, not}
 use mathlib.Core.List.{List}
+use mathlib.Core.Option.{none, some}
 use native.Mathlib.Nat.{mod-self, mod-eq-of-lt}
 use native.Mathlib.Decide.{decLt}
 use native.Mathlib.Omega.{arith}
 use borrow.Author.Tests.{lt-ltb, le-ltb, eq-eqb, ne-eqb, not-true}
-use lib.ListN.{getD}
 use lib.Dec.{T, ltb, eqb}
 use Rattle.line_chains.proofs.Linking.{at-first, at-next}
 use Rattle.model.specs.Sizes.{resourcesMost}
-use Rattle.model.specs.Tests.{_and_, neg, least}
+use Rattle.model.specs.Tests.{_and_, neg, least, given, _else_}
 use Rattle.model.specs.Divisor.{gcd}
 use Rattle.model.proofs.Divisor.{gcd-step, gcd-zero}
 use Rattle.model.proofs.Tests.{eq→T, least-is, least-at, not-neg}
 use Rattle.num_divisor.specs.Common.{Cycle, Common}
 use Rattle.file_table.specs.Parts.{Is}
-use Rattle.line_chains.specs.Chains.{lineIn, has, Linked}
-use Rattle.line_series.specs.Judging.{seen, noted, Held, agreesOf, coversOf, meetsAt, partAt, oneOf, againAt, metBy, judgedOf}
+use Rattle.plan.specs.Plan.{cycleIn, portIn, outIn, sentIn}
+use Rattle.line_chains.specs.Chains.{lineIn, has, linesIn, firstIn, afterIn, Linked}
+use Rattle.line_series.specs.Judging.{seen, noted, Held, agreesOf, coversOf, meetsAt, partAt, oneOf, againAt, metBy, faultBy, faultAt, hopFault}
 use Rattle.line_series.specs.declared.Met.{Met}
-use Rattle.line_series.specs.declared.Judged.the-variants.{Fine, Unserved, Partly, Twice, Astray}
+use Rattle.model.specs.declared.Answer.the-variants.{Unserved, Partly, Twice, Astray}
 use Rattle.line_chains.proofs.Chains.{T-false, Next}
 use Rattle.line_series.proofs.Seeing.{Seen, seen-is, seen-none, seen-over, seen-first, seen-before, seen-all}
 
@@ -164,8 +165,8 @@ module _ (t : List ℕ) (lines port cycle start : ℕ) where
     pub part-is : part ≡ seen lines part? m
     pub two-is : two ≡ seen lines again m
 
-  pub going-none : (head next : List ℕ) (m : ℕ) → Linked t lines head next → port < resourcesMost → m ≡ getD head port 0 → Going lines lines lines m
-  going-none head next m linked h e = record {
+  pub going-none : (ch : List ℕ) (m : ℕ) → Linked t ch → lines ≡ linesIn ch → port < resourcesMost → m ≡ firstIn ch port → Going lines lines lines m
+  going-none ch m linked n h e = record {
     high = x .high;
     on = x .found;
     one-is = none meet meet-has;
@@ -174,18 +175,18 @@ module _ (t : List ℕ) (lines port cycle start : ℕ) where
   }
     where
       x : Next lines (has t port) 0 m
-      x = at-first port linked h e
+      x = rw n (at-first port linked h e)
 
       none : (p : ℕ → Bool) → ((j : ℕ) → has t port j ≡ false → p j ≡ false) → lines ≡ seen lines p m
       none p only = sym (seen-over lines p 0 _ (x .low) (x .high) (λ j a b. only j (x .none-before j a b)) ∙ seen-none lines p)
 
   module _ (one part two m : ℕ) (low : m < lines) where
-    pub held-here : (head next : List ℕ) → Linked t lines head next → Cycle cycle → Held t m cycle
-    held-here head next linked good = record { few = omega (arith, linked .tabled .few); cycle-good = good; period-good = linked .tabled .period m low; slot-good = linked .tabled .slot m low }
+    pub held-here : (ch : List ℕ) → Linked t ch → lines ≡ linesIn ch → Cycle cycle → Held t m cycle
+    held-here ch linked n good = record { few = omega (arith, linked .tabled .few); cycle-good = good; period-good = linked .tabled .period m (rw n at low); slot-good = linked .tabled .slot m (rw n at low) }
 
-    module _ (head next : List ℕ) (linked : Linked t lines head next) (g : Going one part two m) (m′ : ℕ) (e : m′ ≡ getD next m 0) where
+    module _ (ch : List ℕ) (linked : Linked t ch) (n : lines ≡ linesIn ch) (g : Going one part two m) (m′ : ℕ) (e : m′ ≡ afterIn ch m) where
       link-next : Next lines (has t port) (suc m) m′
-      link-next = at-next port linked low (g .on low) e
+      link-next = rw n (at-next port linked (rw n at low) (g .on low) e)
 
       pub going-less : lines - m′ < lines - m
       going-less = omega (arith, link-next .low)
@@ -230,37 +231,42 @@ module _ (t : List ℕ) (lines port cycle start : ℕ) where
           (note-missed lines part m meets (not (coversOf t cycle start m)) missed)
           (note-missed lines one m meets true missed)
 
-  pub going-all : (one part two m : ℕ) → lines ≤ m → Going one part two m → record { one = one; part = part; two = two } ≡ metBy t lines port cycle start
+  pub going-all : (n one part two m : ℕ) → lines ≡ n → lines ≤ m → Going one part two m → record { one = one; part = part; two = two } ≡ metBy t n port cycle start
   unfolding metBy oneOf
-  going-all one part two m h g =
+  going-all n one part two m is h g =
       let e : m ≡ lines = omega (arith, g .high) in
       let e₁ : one ≡ least lines meet = g .one-is ∙ ap (seen lines meet) e ∙ seen-all lines meet in
       let ep : part ≡ least lines part? = g .part-is ∙ ap (seen lines part?) e ∙ seen-all lines part? in
       let e₂ : two ≡ least lines again = g .two-is ∙ ap (seen lines again) e ∙ seen-all lines again in
-      rw (e₁, ep, e₂) refl
+      rw (← is, e₁, ep, e₂) refl
 
 -- ---- what is told of a series: met is what the walk came to
 
-module _ (t : List ℕ) (lines port cycle start out : ℕ) (met : Met) (is : met ≡ metBy t lines port cycle start) where
-  pub judge-none : lines ≤ met .one → Unserved ≡ judgedOf t lines port cycle start out
-  unfolding judgedOf
-  judge-none h = rw (← is, le-ltb (met .one) lines h) refl
+module _ (p t : List ℕ) (lines n c a j : ℕ) (met : Met) (is-n : lines ≡ n) {after port cycle : ℕ} (is-after : after ≡ sentIn p c j) (is-port : port ≡ portIn p c j)
+    (is-cycle : cycle ≡ cycleIn p c) (is : met ≡ metBy t n port cycle (a + after)) where
+  fault-is : hopFault p t n c a j ≡ faultBy lines met (lineIn t (met .one) .out) (outIn p c j) c a j
+  unfolding hopFault faultAt
+  fault-is = rw (← is-after, ← is-port, ← is-cycle, is-n, is) refl
 
-  module _ (some : met .one < lines) where
-    pub judge-part : met .part < lines → Partly (met .part) ≡ judgedOf t lines port cycle start out
-    unfolding judgedOf
-    judge-part h = rw (← is, lt-ltb (met .one) lines some, lt-ltb (met .part) lines h) refl
+  pub judge-none : lines ≤ met .one → some (Unserved c a j) ≡ hopFault p t n c a j
+  unfolding given _else_ neg
+  judge-none h = sym (fault-is ∙ rw (le-ltb (met .one) lines h) refl)
+
+  module _ (one : met .one < lines) where
+    pub judge-part : met .part < lines → some (Partly c a j (met .part)) ≡ hopFault p t n c a j
+    unfolding given _else_ neg
+    judge-part h = sym (fault-is ∙ rw (lt-ltb (met .one) lines one, lt-ltb (met .part) lines h) refl)
 
     module _ (whole : lines ≤ met .part) where
-      pub judge-twice : met .two < lines → Twice (met .two) ≡ judgedOf t lines port cycle start out
-      unfolding judgedOf
-      judge-twice h = rw (← is, lt-ltb (met .one) lines some, le-ltb (met .part) lines whole, lt-ltb (met .two) lines h) refl
+      pub judge-twice : met .two < lines → some (Twice c a j (met .two)) ≡ hopFault p t n c a j
+      unfolding given _else_ neg
+      judge-twice h = sym (fault-is ∙ rw (lt-ltb (met .one) lines one, le-ltb (met .part) lines whole, lt-ltb (met .two) lines h) refl)
 
-      module _ (once : lines ≤ met .two) (led e : ℕ) (le : Is (lineIn t (met .one) .out) e led) where
-        pub judge-stray : (led ≡ out → ⊥) → Astray (met .one) ≡ judgedOf t lines port cycle start out
-        unfolding judgedOf
-        judge-stray h = rw (← is, lt-ltb (met .one) lines some, le-ltb (met .part) lines whole, le-ltb (met .two) lines once, ← le .is, ne-eqb led out h) refl
+      module _ (once : lines ≤ met .two) (led e : ℕ) (le : Is (lineIn t (met .one) .out) e led) (out : ℕ) (is-out : out ≡ outIn p c j) where
+        pub judge-stray : (led ≡ out → ⊥) → some (Astray c a j (met .one)) ≡ hopFault p t n c a j
+        unfolding given _else_ neg
+        judge-stray h = sym (fault-is ∙ rw (lt-ltb (met .one) lines one, le-ltb (met .part) lines whole, le-ltb (met .two) lines once, ← le .is, ← is-out, ne-eqb led out h) refl)
 
-        pub judge-fine : led ≡ out → Fine ≡ judgedOf t lines port cycle start out
-        unfolding judgedOf
-        judge-fine h = rw (← is, lt-ltb (met .one) lines some, le-ltb (met .part) lines whole, le-ltb (met .two) lines once, ← le .is, eq-eqb led out h) refl
+        pub judge-fine : led ≡ out → none ≡ hopFault p t n c a j
+        unfolding given _else_ neg
+        judge-fine h = sym (fault-is ∙ rw (lt-ltb (met .one) lines one, le-ltb (met .part) lines whole, le-ltb (met .two) lines once, ← le .is, ← is-out, eq-eqb led out h) refl)

@@ -3,19 +3,18 @@ use Prim.Native.Nat.{ℕ, _+_, _%_, _≤_, _<_}
 use mathlib.Core.Path.{_≡_}
 use mathlib.Core.Bool.{Bool, true, cond}
 use mathlib.Core.List.{List}
-use mathlib.Core.Option.{Option, none, some}
+use mathlib.Core.Option.{Option, none}
 use lib.Dec.{ltb, eqb}
 use Rattle.model.specs.Sizes.{linesMost, cycleMost}
 use Rattle.model.specs.Divisor.{gcd}
-use Rattle.model.specs.Tests.{_and_, neg, least}
+use Rattle.model.specs.Tests.{_and_, neg, least, given, _else_}
 use Rattle.model.specs.declared.Answer.{Answer}
-use Rattle.model.specs.declared.Answer.the-variants.{Unserved as UnservedAnswer, Partly as PartlyAnswer, Twice as TwiceAnswer, Astray as AstrayAnswer}
+use Rattle.model.specs.declared.Answer.the-variants.{Unserved, Partly, Twice, Astray}
 use Rattle.num_divisor.specs.Common.{Cycle}
 use Rattle.num_mask.specs.Bits.{bit}
+use Rattle.plan.specs.Plan.{cycleIn, portIn, outIn, sentIn}
 use Rattle.line_chains.specs.Chains.{lineIn, has}
 use Rattle.line_series.specs.declared.Met.{Met}
-use Rattle.line_series.specs.declared.Judged.{Judged}
-use Rattle.line_series.specs.declared.Judged.the-variants.{Fine, Unserved, Partly, Twice, Astray}
 
 -- ---- the first line that is wanted, of those passed
 
@@ -62,32 +61,30 @@ module _ (t : List ℕ) where
     unfoldable pub metBy : Met
     metBy = record { one = oneOf; part = least lines (partAt port cycle start); two = least lines againAt }
 
--- the tests 13, 14, 15, 16 in order, where line `one` leads to `led`
-abbrev pub judgedBy : (lines : ℕ) → Met → (led out : ℕ) → Judged
-judgedBy lines met led out =
-    cond (ltb (met .one) lines)
-    (cond (ltb (met .part) lines) (Partly (met .part))
-    (cond (ltb (met .two) lines) (Twice (met .two))
-    (cond (eqb led out) Fine (Astray (met .one)))))
-    Unserved
+-- the tests 13, 14, 15, 16 of series c, a, j in order, where line `one` leads to `led`
+abbrev pub faultBy : (lines : ℕ) → Met → (led out c a j : ℕ) → Option Answer
+faultBy lines met led out c a j =
+    given (neg (ltb (met .one) lines)) (Unserved c a j)
+    else given (ltb (met .part) lines) (Partly c a j (met .part))
+    else given (ltb (met .two) lines) (Twice c a j (met .two))
+    else given (neg (eqb led out)) (Astray c a j (met .one))
 
-unfoldable pub judgedOf : (t : List ℕ) (lines port cycle start out : ℕ) → Judged
-judgedOf t lines port cycle start out =
+unfoldable pub faultAt : (t : List ℕ) (lines port cycle start out c a j : ℕ) → Option Answer
+faultAt t lines port cycle start out c a j =
     let met = metBy t lines port cycle start in
-    judgedBy lines met (lineIn t (met .one) .out) out
+    faultBy lines met (lineIn t (met .one) .out) out c a j
 
--- as the answer of series c, a, j
-abbrev pub judgedAnswer : (c a j : ℕ) → Judged → Option Answer
-judgedAnswer c a j Fine = none
-judgedAnswer c a j Unserved = some (UnservedAnswer c a j)
-judgedAnswer c a j (Partly m) = some (PartlyAnswer c a j m)
-judgedAnswer c a j (Twice m) = some (TwiceAnswer c a j m)
-judgedAnswer c a j (Astray m) = some (AstrayAnswer c a j m)
+-- of hop j of circuit c of a plan, with offset a
+unfoldable pub hopFault : (p t : List ℕ) (lines c a j : ℕ) → Option Answer
+hopFault p t lines c a j = faultAt t lines (portIn p c j) (cycleIn p c) (a + sentIn p c j) (outIn p c j) c a j
 
 -- x has the offsets of a mask modulo g, where g is not 0
 pub record Folds (mask g x : ℕ) : Type 0 where
   pub has-all : 1 ≤ g → (a : ℕ) → a < cycleMost → bit mask a ≡ true → bit x (a % g) ≡ true
 
--- no series of the offsets of a mask has a fault, where it comes to the port so long after its offset
-pub record AllServed (t : List ℕ) (lines port cycle after out mask : ℕ) : Type 0 where
-  pub each : (a : ℕ) → bit mask a ≡ true → judgedOf t lines port cycle (a + after) out ≡ Fine
+-- no series of the offsets of a mask has a fault, where it comes to the port so long after its offset, whatever its name is
+pub record Served (t : List ℕ) (lines port cycle after out mask : ℕ) : Type 0 where
+  pub each : (a : ℕ) → bit mask a ≡ true → (c j : ℕ) → faultAt t lines port cycle (a + after) out c a j ≡ none
+
+pub record AllServed (p : List ℕ) (mask : ℕ) (t : List ℕ) (lines c j : ℕ) : Type 0 where
+  pub each : (a : ℕ) → bit mask a ≡ true → hopFault p t lines c a j ≡ none

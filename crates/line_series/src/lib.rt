@@ -2,11 +2,19 @@
 ghost use mathlib.Core.Path.{_≡_};
 ghost use mathlib.Core.Bool.{true};
 ghost use Prim.Native.Nat.{_%_, _<_};
-ghost use Rattle.model.specs.Sizes.{resourcesMost};
+ghost use lib.ListN.{getD};
+ghost use Rattle.model.specs.Sizes.{resourcesMost, cycleMost};
 ghost use Rattle.model.specs.Tests.{_and_};
 ghost use Rattle.num_divisor.specs.Common.{Cycle};
-ghost use Rattle.line_chains.specs.Chains.{Linked};
-ghost use Rattle.line_series.specs.Judging.{noted, Held, agreesOf, coversOf, metBy, judgedOf, Folds, AllServed};
+ghost use Rattle.plan.specs.Plan.{sendCount, Fit};
+ghost use Rattle.plan_refusal.specs.Found.{found};
+ghost use Rattle.line_chains.specs.Chains.{linesIn, Linked};
+ghost use Rattle.line_series.specs.Judging.{noted, Held, agreesOf, coversOf, metBy, hopFault, Folds, Served, AllServed};
+use line_chains::Chains;
+use model::Answer;
+use plan::Masks;
+use plan::Plan;
+use plan_refusal::Refusal;
 
 // Of the lines that meet a series: the first, the first that does not serve it whole, and the second.
 // The number of lines where there is none.
@@ -14,15 +22,6 @@ struct Met {
     one: usize,
     part: usize,
     two: usize,
-}
-
-// What is wrong with a series, if anything is, and the line that shows it.
-pub enum Judged {
-    Fine,
-    Unserved,
-    Partly(usize),
-    Twice(usize),
-    Astray(usize),
 }
 
 // Some slot of the series matches line m. Of the slots of the series `early` is the remainder by its
@@ -71,27 +70,20 @@ fn note(n: usize, before: usize, m: usize, meets: bool, wanted: bool) -> usize
 }
 
 // Goes through the lines of the port.
-fn meeting(
-    t: &[u8],
-    lines: usize,
-    head: &[u16],
-    next: &[u16],
-    port: usize,
-    cycle: usize,
-    start: usize,
-) -> Met
-    requires { ⌜ Linked (now t) lines (now head) (now next) ⌝ }
+fn meeting(t: &[u8], ch: &Chains, port: usize, cycle: usize, start: usize) -> Met
+    requires { ⌜ Linked (now t) (now ch) ⌝ }
     requires { ⌜ (port < resourcesMost) × Cycle cycle ⌝ }
-    ensures { λ r. ⌜ r ≡ metBy (now (t .entry)) lines port cycle start ⌝ }
+    ensures { λ r. ⌜ r ≡ metBy (now (t .entry)) (linesIn (now (ch .entry))) port cycle start ⌝ }
 {
+    let lines = line_chains::lines(ch);
     let early = start % cycle;
     let mut one = lines;
     let mut part = lines;
     let mut two = lines;
-    let mut m = line_chains::wide(head[port]);
+    let mut m = line_chains::first(ch, port);
     while m < lines {
         let here = m;
-        m = line_chains::wide(next[here]);
+        m = line_chains::next(ch, here);
         let meets = agrees(t, here, cycle, start, early);
         if !meets {
             continue;
@@ -108,40 +100,57 @@ fn meeting(
     }
 }
 
-// What is wrong with the series that comes to this port from slot start on, once in each cycle, to go
-// to the buffer out.
-pub fn judge(
-    t: &[u8],
-    lines: usize,
-    head: &[u16],
-    next: &[u16],
-    port: usize,
-    cycle: usize,
-    start: usize,
-    out: usize,
-) -> Judged
-    requires { ⌜ Linked (now t) lines (now head) (now next) ⌝ }
-    requires { ⌜ (port < resourcesMost) × Cycle cycle ⌝ }
-    ensures { λ r. ⌜ r ≡ judgedOf (now (t .entry)) lines port cycle start out ⌝ }
+// What is wrong with the series of circuit c, offset a and hop j.
+pub fn judge(p: &Plan, t: &[u8], ch: &Chains, c: usize, a: usize, j: usize) -> Refusal
+    requires { ⌜ Linked (now t) (now ch) ⌝ }
+    requires { ⌜ Fit (now p) c ⌝ }
+    requires { ⌜ (a < cycleMost) × (j < sendCount (now p) c) ⌝ }
+    ensures { λ r. ⌜ found r ≡ hopFault (now (p .entry)) (now (t .entry)) (linesIn (now (ch .entry))) c a j ⌝ }
 {
-    let met = meeting(t, lines, head, next, port, cycle, start);
+    let circuit = c as u32;
+    let offset = a as u32;
+    let hop = j as u32;
+    let lines = line_chains::lines(ch);
+    let start = a + plan::sent(p, c, j);
+    let met = meeting(t, ch, plan::port(p, c, j), plan::cycle(p, c), start);
     let one = met.one;
     let part = met.part;
     let two = met.two;
     if lines <= one {
-        return Judged::Unserved;
+        return Refusal::Told(Answer::Unserved {
+            circuit,
+            offset,
+            hop,
+        });
     }
     if part < lines {
-        return Judged::Partly(part);
+        let line = part as u32;
+        return Refusal::Told(Answer::Partly {
+            circuit,
+            offset,
+            hop,
+            line,
+        });
     }
     if two < lines {
-        return Judged::Twice(two);
+        let line = two as u32;
+        return Refusal::Told(Answer::Twice {
+            circuit,
+            offset,
+            hop,
+            line,
+        });
     }
-    let led = file_table::out_of(t, one);
-    if led != out {
-        return Judged::Astray(one);
+    if file_table::out_of(t, one) != plan::out(p, c, j) {
+        let line = one as u32;
+        return Refusal::Told(Answer::Astray {
+            circuit,
+            offset,
+            hop,
+            line,
+        });
     }
-    Judged::Fine
+    Refusal::Nothing
 }
 
 // The offsets of the mask modulo g.
@@ -171,31 +180,28 @@ fn refold(mask: u32, modulus: usize, folded: u32, g: usize) -> u32
     residues(mask, g)
 }
 
-// Whether the series of all offsets of the mask, which come to this port `after` slots behind their offsets, are served,
-// told in one walk over the lines: a line whose period is the cycle meets the series of one offset, and any other line must
-// meet none. Where it does not say yes, `judge` tells what is wrong with each series, if anything is.
-pub fn all_served(
+// The same for a mask of offsets, of series that come to this port `after` slots behind their offsets and go to `out`.
+fn walk_served(
     t: &[u8],
-    lines: usize,
-    head: &[u16],
-    next: &[u16],
+    ch: &Chains,
     port: usize,
     cycle: usize,
     after: usize,
     out: usize,
     mask: u32,
 ) -> bool
-    requires { ⌜ Linked (now t) lines (now head) (now next) ⌝ }
+    requires { ⌜ Linked (now t) (now ch) ⌝ }
     requires { ⌜ (port < resourcesMost) × Cycle cycle ⌝ }
-    ensures { λ r. ⌜ (r ≡ true → AllServed (now (t .entry)) lines port cycle after out mask) ⌝ }
+    ensures { λ r. ⌜ (r ≡ true → Served (now (t .entry)) (linesIn (now (ch .entry))) port cycle after out mask) ⌝ }
 {
+    let lines = line_chains::lines(ch);
     let mut met = 0u32;
     let mut modulus = 0;
     let mut folded = 0u32;
-    let mut m = line_chains::wide(head[port]);
-    while m < lines {
-        let here = m;
-        m = line_chains::wide(next[here]);
+    let mut line = line_chains::first(ch, port);
+    while line < lines {
+        let here = line;
+        line = line_chains::next(ch, here);
         let period = file_table::period_of(t, here);
         let slot = file_table::slot_of(t, here);
         if period != cycle {
@@ -222,4 +228,23 @@ pub fn all_served(
         met = num_mask::mark(met, a);
     }
     met == mask
+}
+
+// Whether the series of all offsets of circuit c at hop j are served, told in one walk over the lines: a line whose period is the
+// cycle meets the series of one offset, and any other line must meet none. Where it does not say yes, `judge` tells what is wrong.
+pub fn all_served(p: &Plan, m: &Masks, t: &[u8], ch: &Chains, c: usize, j: usize) -> bool
+    requires { ⌜ Linked (now t) (now ch) ⌝ }
+    requires { ⌜ Fit (now p) c ⌝ }
+    requires { ⌜ j < sendCount (now p) c ⌝ }
+    ensures { λ r. ⌜ (r ≡ true → AllServed (now (p .entry)) (getD (now (m .entry)) c 0) (now (t .entry)) (linesIn (now (ch .entry))) c j) ⌝ }
+{
+    walk_served(
+        t,
+        ch,
+        plan::port(p, c, j),
+        plan::cycle(p, c),
+        plan::sent(p, c, j),
+        plan::out(p, c, j),
+        m[c],
+    )
 }

@@ -1,2 +1,4 @@
--- What is held of files that were read. Assumes nothing.
+-- Laws of files that were loaded. Assumes nothing.
+pub mod Damage
+pub mod Offsets
 pub mod Loading

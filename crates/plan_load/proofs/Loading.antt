@@ -1,103 +1,136 @@
 -- What is held of a request and an assignment that were loaded, for `search`. Assumes nothing.
 use Prim.Native.Nat.{ℕ, _<_}
 use mathlib.Core.Path.{_≡_, refl, sym, ap, _∙_}
+use mathlib.Core.Bool.{Bool, true, false, not}
 use mathlib.Core.List.{List}
+use mathlib.Core.Option.{none, some}
 use native.Mathlib.Omega.{arith}
-use lib.ListN.{length, getD, length-append, length-replicate}
-use Rattle.model.specs.Sizes.{circuitsMost, detailEnd}
+use borrow.Author.Tests.{not-true, not-false}
+use lib.ListN.{getD}
+use Rattle.model.specs.Sizes.{requestFile, assignmentFile}
+use Rattle.model.specs.Tests.{_else_}
 use Rattle.model.specs.Network.{Request}
-use Rattle.model.specs.Reading.{starts, stopped, request, requestWalk, assignment, assignmentWalk}
+use Rattle.model.specs.Reading.{Walked, requestWalk, request, assignmentWalk, assignment}
+use Rattle.model.specs.Jobs.{requestFault, assignmentFault}
 use Rattle.model.proofs.Readers.{request-sound, request-byte-fits, assignment-byte-fits}
-use Rattle.model.specs.declared.Fault.{Fault}
-use Rattle.file_records.specs.Fields.{endingOf}
+use Rattle.file_records.specs.Fields.{endingOf, placesOf}
 use Rattle.file_records.specs.declared.Ending.the-variants.{Whole, Stopped}
-use Rattle.file_records.proofs.Endings.{ends-stopped}
-use Rattle.file_request.specs.Parts.{planOf, Reads}
-use Rattle.file_request.specs.declared.Plan.{Plan as Read}
-use Rattle.file_request.proofs.Parts.{reads-of, count-is, few, start-here}
-use Rattle.file_assignment.specs.Parts.{OfRequest, bookedOf}
-use Rattle.file_assignment.specs.declared.Booked.{Booked}
-use Rattle.plan.specs.Rows.{Rows, RowsOf, Starts, Ready, Bookings, Masks}
-use Rattle.plan.proofs.Callers.{of-request, booked-long, ready-of, bookings-of}
-use Rattle.plan_load.specs.Loaded.{Loads, Holds, Numbers, LoadsOffsets}
-use Rattle.plan_load.specs.declared.Plan.{Plan}
-use Rattle.plan_load.specs.declared.Offsets.{Offsets}
+use Rattle.file_records.specs.declared.Places.{Places}
+use Rattle.model.specs.declared.Fault.{Fault}
+use Rattle.file_parts.specs.Parts.{Starts}
+use Rattle.file_request.proofs.Parts.{starts-whole}
+use Rattle.file_assignment.specs.Parts.{BookedAt}
+use Rattle.file_assignment.proofs.Parts.{places-long, booked-here}
+use Rattle.plan.specs.Plan.{Stands}
+use Rattle.plan.proofs.Laws.{usable, cycle-is}
+use Rattle.plan_refusal.specs.Found.{found, nothing}
+use Rattle.plan_refusal.specs.declared.Refusal.{Refusal}
+use Rattle.plan_refusal.specs.declared.Refusal.the-variants.{Nothing}
+use Rattle.plan_refusal.proofs.Firsts.{nothing-none, told-some}
+use Rattle.plan_masks.specs.Masks.{Risings, MasksOf}
+use Rattle.plan_load.specs.Loaded.{damageOf, ByteFits, Opens, Loads, LoadsBoth}
+use Rattle.plan_load.proofs.Damage.{damage-is, passed, fits}
+use Rattle.plan_load.proofs.Offsets.{rising-of, taken-of, below-of}
 
--- ---- what `decode` asks of a file that was read
+pub ending-is : (w : Walked) {r : Places} → r ≡ placesOf w → r .ending ≡ endingOf w
+ending-is w e = ap (λ (x : Places). x .ending) e
 
-module _ (s : List ℕ) (p : Read) (g : Reads s p) where
-  at-long : length (p .at) ≡ circuitsMost
-  unfolding planOf
-  at-long =
-      let l : List ℕ = starts (requestWalk s) in
-      let n : p .circuits ≡ length l = ap (λ (x : Read). x .circuits) (g .plan) in
-      ap (λ (x : Read). length (x .at)) (g .plan) ∙ simp (length-append, length-replicate) (omega (arith, few s p g))
+-- ---- the request: r is what was read of it
 
-  starts-of : Starts s (p .circuits) (p .at)
-  starts-of = record { fine = g .whole; many = count-is s p g; few = few s p g; at-long = at-long; each = λ c h. start-here s p g c (getD (p .at) c 0) h refl }
+module _ (req p : List ℕ) (r : Places) (e : r ≡ placesOf (requestWalk req)) where
+  pub starts-here : r .ending ≡ Whole → Starts req (r .count) (r .at)
+  starts-here w = starts-whole req r e w
 
-module _ (s : List ℕ) (p : Read) (e : p ≡ planOf s) where
-  ending-is : p .ending ≡ endingOf (requestWalk s)
-  unfolding planOf
-  ending-is = ap (λ (x : Read). x .ending) e
+  pub opens-whole : Stands (request req) p → Opens req p r
+  opens-whole s = record { places = e; stands = λ _. s }
 
-  pub starts-here : p .ending ≡ Whole → Starts s (p .circuits) (p .at)
-  starts-here h = starts-of s p (reads-of s p e h)
+  pub opens-stopped : (f : Fault) (b : ℕ) → r .ending ≡ Stopped f b → Opens req p r
+  opens-stopped f b h = record { places = e; stands = λ w. absurd (let z : _≡_ {A = ℕ} 0 1 = cc in omega arith) }
 
-  pub load-whole : (cycles demands counts whats afters : List ℕ) → p .ending ≡ Whole → Rows (request s) (p .circuits) cycles demands counts whats afters
-      → Loads s (record { ending = p .ending; circuits = p .circuits; cycles = cycles; demands = demands; counts = counts; whats = whats; afters = afters })
-  load-whole cycles demands counts whats afters h rows =
-      let r = reads-of s p e h in
-      record { ending = ending-is; holds = λ _. record { fine = r .whole; many = count-is s p r; few = few s p r; rows = rows } }
+module _ (req p : List ℕ) (r : Places) (g : Opens req p r) where
+  pub request-fits : ByteFits (r .ending)
+  request-fits = fits (requestWalk req) (ending-is (requestWalk req) (g .places)) (request-byte-fits req)
 
-  pub load-stopped : (cycles demands counts whats afters : List ℕ) (f : Fault) (b : ℕ) → p .ending ≡ Stopped f b
-      → Loads s (record { ending = p .ending; circuits = p .circuits; cycles = cycles; demands = demands; counts = counts; whats = whats; afters = afters })
-  load-stopped cycles demands counts whats afters f b h = record { ending = ending-is; holds = λ w. absurd (let z : _≡_ {A = ℕ} 0 1 = cc in omega arith) }
+  -- x is what is told of it
+  module _ (x : Refusal) (e : found x ≡ damageOf requestFile (r .ending)) where
+    request-told : found x ≡ requestFault req
+    request-told = e ∙ damage-is requestFile (requestWalk req) (ending-is (requestWalk req) (g .places))
 
--- ---- a request that was loaded, and an assignment of one
+    request-whole : found x ≡ none → r .ending ≡ Whole
+    request-whole n = passed requestFile (r .ending) (sym e ∙ n)
 
-module _ (s : List ℕ) (p : Plan) (l : Loads s p) (f : Fault) (b : ℕ) (h : p .ending ≡ Stopped f b) where
-  pub request-stops : requestWalk s ≡ stopped f b
-  request-stops = ends-stopped (requestWalk s) f b (sym (l .ending) ∙ h)
+    pub loads : Loads req p x
+    loads = record { fault = request-told; stands = λ n. g .stands (request-whole n) }
 
-  pub request-byte : b < detailEnd
-  request-byte = request-byte-fits s f b request-stops
+    module _ (b : Bool) (be : b ≡ nothing x) where
+      pub request-refused : (asg m : List ℕ) → not b ≡ true → LoadsBoth req asg p m x
+      unfolding _else_
+      request-refused asg m h =
+          let t = told-some x (sym be ∙ not-true b h) in
+          let f : requestFault req ≡ some (t .0) = sym request-told ∙ t .1 in
+          record {
+            fault = t .1 ∙ rw f refl;
+            booked = λ n. absurd (let s = t .1 in let z : _≡_ {A = ℕ} 0 1 = cc in omega arith);
+            slotted = λ n. absurd (let s = t .1 in let z : _≡_ {A = ℕ} 0 1 = cc in omega arith);
+          }
 
-pub stands-of : (s : List ℕ) (p : Plan) → Holds s p → RowsOf (request s) (p .circuits) (p .cycles) (p .counts) (p .whats) (p .afters)
-stands-of s p h = record { sound = request-sound s (h .fine); many = sym (h .many); demands = p .demands; rows = h .rows }
+      -- ---- and the assignment of a request without a fault: k is what was read of it
 
-pub numbers-of : (s : List ℕ) (p : Plan) → Holds s p → Numbers s (p .circuits) (p .cycles) (p .demands)
-numbers-of s p h = record { fine = h .fine; many = h .many; few = h .few; counts = p .counts; whats = p .whats; afters = p .afters; rows = h .rows }
+      module _ (h : not b ≡ false) where
+        whole : r .ending ≡ Whole
+        whole = request-whole (nothing-none x (sym be ∙ not-false b h))
 
-module _ (q : Request) (n : ℕ) (s : List ℕ) (o : Offsets) (l : LoadsOffsets q n s o) (f : Fault) (b : ℕ) (h : o .ending ≡ Stopped f b) where
-  pub assignment-stops : assignmentWalk q s ≡ stopped f b
-  assignment-stops = ends-stopped (assignmentWalk q s) f b (sym (l .ending) ∙ h)
+        pub starts-of : Starts req (r .count) (r .at)
+        starts-of = starts-whole req r (g .places) whole
 
-  pub assignment-byte : b < detailEnd
-  assignment-byte = assignment-byte-fits q s f b assignment-stops
+        abbrev Q : Request
+        Q = request req
 
--- ---- an assignment of a request whose numbers stand in rows: b is what was read of its file
+        module _ (asg : List ℕ) (k : Places) (ke : k ≡ placesOf (assignmentWalk Q asg)) where
+          pub assignment-fits : ByteFits (k .ending)
+          assignment-fits = fits (assignmentWalk Q asg) (ending-is (assignmentWalk Q asg) ke) (assignment-byte-fits Q asg)
 
-module _ (req s : List ℕ) (n : ℕ) (cycles demands : List ℕ) (g : Numbers req n cycles demands) (b : Booked)
-    (e : (q : Request) → OfRequest q n cycles demands → b ≡ bookedOf q s) where
-  booked-is : b ≡ bookedOf (request req) s
-  booked-is = e (request req) (of-request (request req) n cycles demands (g .counts) (g .whats) (g .afters) (sym (g .many)) (g .rows))
+          -- y is what is told of it
+          module _ (y : Refusal) (f : found y ≡ damageOf assignmentFile (k .ending)) where
+            both-told : found y ≡ (requestFault req else assignmentFault Q asg)
+            unfolding _else_
+            both-told =
+                let fine : requestFault req ≡ none = sym request-told ∙ nothing-none x (sym be ∙ not-false b h) in
+                f ∙ damage-is assignmentFile (assignmentWalk Q asg) (ending-is (assignmentWalk Q asg) ke) ∙ rw fine refl
 
-  bookings-here : b .ending ≡ Whole → Bookings (request req) s n (b .at) demands
-  bookings-here h =
-      bookings-of (request req) s n cycles demands (g .counts) (g .whats) (g .afters) b (request-sound req (g .fine)) (sym (g .many)) (g .rows) booked-is h
+            module _ (d : Bool) (de : d ≡ nothing y) where
+              pub assignment-refused : (m : List ℕ) → not d ≡ true → LoadsBoth req asg p m y
+              assignment-refused m l =
+                  let t = told-some y (sym de ∙ not-true d l) in
+                  record {
+                    fault = both-told;
+                    booked = λ n. absurd (let s = t .1 in let z : _≡_ {A = ℕ} 0 1 = cc in omega arith);
+                    slotted = λ n. absurd (let s = t .1 in let z : _≡_ {A = ℕ} 0 1 = cc in omega arith);
+                  }
 
-  pub ready-here : b .ending ≡ Whole → (masks : List ℕ) → length masks ≡ circuitsMost → Ready s n (b .at) demands masks
-  ready-here h masks long =
-      ready-of (request req) s n (b .at) demands masks (bookings-here h) (g .few) (booked-long (request req) s b booked-is h) (g .rows .sized .demands-long) long
+              module _ (l : not d ≡ false) where
+                nothing-told : found y ≡ none
+                nothing-told = nothing-none y (sym de ∙ not-false d l)
 
-  ends-so : b .ending ≡ endingOf (assignmentWalk (request req) s)
-  unfolding bookedOf
-  ends-so = ap (λ (x : Booked). x .ending) booked-is
+                booked-at : (c : ℕ) → c < r .count → BookedAt Q asg c (getD (k .at) c 0)
+                booked-at c h = booked-here Q asg k ke (passed assignmentFile (k .ending) (sym f ∙ nothing-told)) c (omega (arith, starts-of .many))
 
-  pub offsets-whole : (masks : List ℕ) → b .ending ≡ Whole → ((q : Request) → Bookings q s n (b .at) demands → Masks q (assignment q s) n masks)
-      → LoadsOffsets (request req) n s (record { ending = b .ending; masks = masks })
-  offsets-whole masks h m = record { ending = ends-so; masks = λ _. m (request req) (bookings-here h) }
+                pub risings-here : Risings asg (r .count) (k .at)
+                risings-here = record {
+                  few = starts-of .few;
+                  at-long = places-long Q asg k ke (passed assignmentFile (k .ending) (sym f ∙ nothing-told));
+                  each = λ c h. rising-of (booked-at c h) (request-sound req (starts-of .fine) .path c (omega (arith, starts-of .many)) .short);
+                }
 
-  pub offsets-stopped : (masks : List ℕ) (f : Fault) (p : ℕ) → b .ending ≡ Stopped f p → LoadsOffsets (request req) n s (record { ending = b .ending; masks = masks })
-  offsets-stopped masks f p h = record { ending = ends-so; masks = λ w. absurd (let z : _≡_ {A = ℕ} 0 1 = cc in omega arith) }
+                pub both-loaded : (m : List ℕ) → MasksOf asg (r .count) (k .at) m → LoadsBoth req asg p m Nothing
+                both-loaded m o =
+                    let s = g .stands whole in
+                    let few = s .many ∙ sym (starts-of .many) in
+                    record {
+                      fault = sym nothing-told ∙ both-told;
+                      booked = λ _. record { stands = s; taken = λ c h. taken-of (booked-at c (omega arith)) (o .each c (omega arith)) };
+                      slotted = λ _. record {
+                        plan = usable s;
+                        low = λ c h. rw (cycle-is s h) (below-of (booked-at c (omega arith)) (o .each c (omega arith)));
+                      };
+                    }

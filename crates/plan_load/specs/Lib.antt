@@ -1,2 +1,2 @@
--- What is held of files that were read. Assumes nothing: these are definitions.
+-- What is held of files that were loaded. Assumes nothing: these are definitions.
 pub mod Loaded

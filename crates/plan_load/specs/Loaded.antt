@@ -1,46 +1,44 @@
--- What a public call holds of the files that it has read. Assumes nothing: these are definitions.
-use Prim.Native.Nat.{ℕ, _≤_}
+-- What is held of files that were loaded, and how one that has a fault is refused. Assumes nothing: these are definitions.
+use Prim.Native.Nat.{ℕ, _<_}
 use mathlib.Core.Path.{_≡_}
 use mathlib.Core.List.{List}
-use mathlib.Core.Option.{none}
-use lib.ListN.{length}
-use Rattle.model.specs.Sizes.{circuitsMost}
-use Rattle.model.specs.Network.{Request}
-use Rattle.model.specs.Reading.{requestWalk, request, assignmentWalk, assignment}
-use Rattle.model.specs.Jobs.{requestFault}
-use Rattle.file_records.specs.Fields.{endingOf}
-use Rattle.file_records.specs.declared.Ending.the-variants.{Whole}
-use Rattle.plan.specs.Rows.{Rows, Masks}
-use Rattle.plan_load.specs.declared.Plan.{Plan}
-use Rattle.plan_load.specs.declared.Offsets.{Offsets}
+use mathlib.Core.Option.{Option, none, some}
+use Rattle.model.specs.Sizes.{detailEnd}
+use Rattle.model.specs.Tests.{_else_}
+use Rattle.model.specs.Reading.{requestWalk, request, assignment}
+use Rattle.model.specs.Jobs.{requestFault, assignmentFault}
+use Rattle.model.specs.declared.Fault.{Fault}
+use Rattle.model.specs.declared.Answer.{Answer}
+use Rattle.model.specs.declared.Answer.the-variants.{Damaged}
+use Rattle.file_records.specs.Fields.{placesOf}
+use Rattle.file_records.specs.declared.Ending.{Ending}
+use Rattle.file_records.specs.declared.Ending.the-variants.{Whole, Stopped}
+use Rattle.file_records.specs.declared.Places.{Places}
+use Rattle.plan.specs.Plan.{Stands, Booked, Slotted}
+use Rattle.plan_refusal.specs.Found.{found}
+use Rattle.plan_refusal.specs.declared.Refusal.{Refusal}
 
--- the rows of a request without a fault
-pub record Holds (s : List ℕ) (p : Plan) : Type 0 where
-  pub fine : requestFault s ≡ none
-  pub many : p .circuits ≡ length (request s .circuits)
-  pub few : p .circuits ≤ circuitsMost
-  pub rows : Rows (request s) (p .circuits) (p .cycles) (p .demands) (p .counts) (p .whats) (p .afters)
+-- what is told of a file whose reading ended so
+abbrev pub damageOf : ℕ → Ending → Option Answer
+damageOf file Whole = none
+damageOf file (Stopped f p) = some (Damaged file f p)
 
--- what is known of a request that was loaded
-pub record Loads (s : List ℕ) (p : Plan) : Type 0 where
-  pub ending : p .ending ≡ endingOf (requestWalk s)
-  pub holds : p .ending ≡ Whole → Holds s p
+-- the byte that it names fits 32 bits
+pub record ByteFits (e : Ending) : Type 0 where
+  pub small : (f : Fault) (p : ℕ) → e ≡ Stopped f p → p < detailEnd
 
--- and of an assignment of the request q
-pub record LoadsOffsets (q : Request) (n : ℕ) (s : List ℕ) (o : Offsets) : Type 0 where
-  pub ending : o .ending ≡ endingOf (assignmentWalk q s)
-  pub masks : o .ending ≡ Whole → Masks q (assignment q s) n (o .masks)
+-- the request file req was read, and where it has no fault the plan stands for it
+pub record Opens (req p : List ℕ) (r : Places) : Type 0 where
+  pub places : r ≡ placesOf (requestWalk req)
+  pub stands : r .ending ≡ Whole → Stands (request req) p
 
--- the request of a file, under a name that no parameter has
-abbrev pub requestOf : List ℕ → Request
-requestOf s = request s
+-- r tells its fault
+pub record Loads (req p : List ℕ) (r : Refusal) : Type 0 where
+  pub fault : found r ≡ requestFault req
+  pub stands : found r ≡ none → Stands (request req) p
 
--- the cycles and demands of the n circuits of a request without a fault
-pub record Numbers (s : List ℕ) (n : ℕ) (cycles demands : List ℕ) : Type 0 where
-  pub fine : requestFault s ≡ none
-  pub many : n ≡ length (request s .circuits)
-  pub few : n ≤ circuitsMost
-  pub counts : List ℕ
-  pub whats : List ℕ
-  pub afters : List ℕ
-  pub rows : Rows (request s) n cycles demands counts whats afters
+-- r tells the first fault of a request and its assignment; where there is none, plan and masks stand for them
+pub record LoadsBoth (req asg p m : List ℕ) (r : Refusal) : Type 0 where
+  pub fault : found r ≡ (requestFault req else assignmentFault (request req) asg)
+  pub booked : found r ≡ none → Booked (request req) (assignment (request req) asg) p m
+  pub slotted : found r ≡ none → Slotted p m

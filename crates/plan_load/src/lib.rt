@@ -1,97 +1,77 @@
-// Files put into rows of numbers, and how a file that has a fault is answered. Assumes nothing.
+// Files put into a plan and its masks, and how a file that has a fault is refused. Assumes nothing.
 ghost use mathlib.Core.Path.{_≡_};
-ghost use Prim.Native.Nat.{_<_};
-ghost use Rattle.model.specs.Sizes.{detailEnd};
-ghost use Rattle.model.specs.declared.Answer.the-variants.{Damaged};
-ghost use Rattle.plan_load.specs.Loaded.{Loads, Numbers, LoadsOffsets, requestOf};
+ghost use lib.ListN.{length};
+ghost use Rattle.model.specs.Sizes.{circuitsMost};
+ghost use Rattle.plan.specs.Plan.{planSize};
+ghost use Rattle.plan_refusal.specs.Found.{found};
+ghost use Rattle.plan_load.specs.Loaded.{ByteFits, damageOf, Opens, Loads, LoadsBoth};
 use file_records::Ending;
+use file_records::Places;
+use model::ASSIGNMENT_FILE;
 use model::Answer;
-use model::CIRCUITS_MOST;
-use model::Fault;
-use model::USES_MOST;
+use model::REQUEST_FILE;
+use plan_refusal::Refusal;
 
-// A request as rows of numbers, where its file has no fault.
-pub struct Plan {
-    pub ending: Ending,
-    pub circuits: usize,
-    pub cycles: [u32; CIRCUITS_MOST],
-    pub demands: [u32; CIRCUITS_MOST],
-    pub counts: [usize; CIRCUITS_MOST],
-    pub whats: [usize; CIRCUITS_MOST * USES_MOST],
-    pub afters: [usize; CIRCUITS_MOST * USES_MOST],
-}
-
-// The offsets of an assignment, where its file has no fault.
-pub struct Offsets {
-    pub ending: Ending,
-    pub masks: [u32; CIRCUITS_MOST],
-}
-
-// Reads a request into rows.
-pub fn load(request: &[u8]) -> Plan
-    ensures { λ r. ⌜ Loads (now (request .entry)) r ⌝ }
+// How a file whose reading ended so is refused.
+pub fn damaged(file: u32, ending: Ending) -> Refusal
+    requires { ⌜ ByteFits ending ⌝ }
+    ensures { λ r. ⌜ found r ≡ damageOf file ending ⌝ }
 {
-    let plan = file_request::read(request);
-    let ending = plan.ending;
-    let n = plan.circuits;
-    let at = plan.at;
-    let mut cycles = [0u32; CIRCUITS_MOST];
-    let mut demands = [0u32; CIRCUITS_MOST];
-    let mut counts = [0usize; CIRCUITS_MOST];
-    let mut whats = [0usize; CIRCUITS_MOST * USES_MOST];
-    let mut afters = [0usize; CIRCUITS_MOST * USES_MOST];
+    match ending {
+        Ending::Whole => Refusal::Nothing,
+        Ending::Stopped(fault, byte) => Refusal::Told(Answer::Damaged {
+            file,
+            fault,
+            byte: byte as u32,
+        }),
+    }
+}
+
+// Reads a request, and puts it into the plan where its file has no fault.
+fn open(request: &[u8], p: &mut [u16]) -> Places
+    requires { ⌜ length (now p) ≡ planSize ⌝ }
+    ensures { λ r. ⌜ Opens (now (request .entry)) (now (p .exit)) r ⌝ }
+{
+    let places = file_request::read(request);
+    let ending = places.ending;
+    let n = places.count;
+    let at = places.at;
     if let Ending::Whole = ending {
-        plan::decode(
-            request,
-            n,
-            &at,
-            &mut cycles,
-            &mut demands,
-            &mut counts,
-            &mut whats,
-            &mut afters,
-        );
+        plan_fill::fill(request, n, &at, p);
     }
-    Plan {
-        ending,
-        circuits: n,
-        cycles,
-        demands,
-        counts,
-        whats,
-        afters,
-    }
+    places
 }
 
-// Reads the assignment of a request into masks.
-pub fn load_offsets(
-    request: &[u8],
-    n: usize,
-    cycles: &[u32],
-    demands: &[u32],
-    assignment: &[u8],
-) -> Offsets
-    requires { ⌜ Numbers (now request) n (now cycles) (now demands) ⌝ }
-    ensures { λ r. ⌜ LoadsOffsets (requestOf (now (request .entry))) n (now (assignment .entry)) r ⌝ }
+// Loads a request.
+pub fn load(request: &[u8], p: &mut [u16]) -> Refusal
+    requires { ⌜ length (now p) ≡ planSize ⌝ }
+    ensures { λ r. ⌜ Loads (now (request .entry)) (now (p .exit)) r ⌝ }
 {
-    let booked = file_assignment::read(assignment, n, cycles, demands);
-    let ending = booked.ending;
-    let at = booked.at;
-    let mut masks = [0u32; CIRCUITS_MOST];
-    if let Ending::Whole = ending {
-        plan::fill_masks(assignment, n, &at, demands, &mut masks);
-    }
-    Offsets { ending, masks }
+    let places = open(request, p);
+    let ending = places.ending;
+    damaged(REQUEST_FILE, ending)
 }
 
-// The answer to a file that has a fault.
-pub fn fault_answer(file: u32, fault: Fault, byte: usize) -> Answer
-    requires { ⌜ byte < detailEnd ⌝ }
-    ensures { λ r. ⌜ r ≡ Damaged file fault byte ⌝ }
+// Loads a request and its assignment.
+pub fn load_both(request: &[u8], assignment: &[u8], p: &mut [u16], masks: &mut [u32]) -> Refusal
+    requires { ⌜ (length (now p) ≡ planSize) × (length (now masks) ≡ circuitsMost) ⌝ }
+    ensures { λ r. ⌜ LoadsBoth (now (request .entry)) (now (assignment .entry)) (now (p .exit)) (now (masks .exit)) r ⌝ }
 {
-    Answer::Damaged {
-        file,
-        fault,
-        byte: byte as u32,
+    let places = open(request, p);
+    let first = places.ending;
+    let n = places.count;
+    let at = places.at;
+    let refusal = damaged(REQUEST_FILE, first);
+    if !plan_refusal::is_nothing(refusal) {
+        return refusal;
     }
+    let booked = file_assignment::read(request, n, &at, assignment);
+    let second = booked.ending;
+    let records = booked.at;
+    let damage = damaged(ASSIGNMENT_FILE, second);
+    if !plan_refusal::is_nothing(damage) {
+        return damage;
+    }
+    plan_masks::fill(assignment, n, &records, masks);
+    Refusal::Nothing
 }

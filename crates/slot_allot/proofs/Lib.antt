@@ -1,2 +1,2 @@
--- What the search for slots comes to in the words of the request. Assumes nothing.
-pub mod Allotting
+-- The laws behind the length of an assignment. Assumes nothing.
+mod Counting

@@ -1,2 +1,2 @@
--- The laws behind the table of clashes. Assumes nothing.
+-- The laws behind the grid of clashes. Assumes nothing.
 pub mod Filling

@@ -1,2 +1,2 @@
--- The table of clashes. Assumes nothing: these are definitions.
+-- The grid of clashes. Assumes nothing: these are definitions.
 pub mod Table

@@ -1,7 +1,8 @@
--- The table of clashes, entry by entry. Assumes nothing: these are definitions.
+-- The grid of clashes, entry by entry. Assumes nothing: these are definitions.
 use Prim.Native.Nat.{ℕ, _+_, _*_, _<_}
 use mathlib.Core.Path.{_≡_}
-use mathlib.Core.List.{List}
+use mathlib.Core.Bool.{Bool}
+use mathlib.Core.List.{List, []}
 use lib.ListN.{length, getD}
 use Rattle.model.specs.Sizes.{circuitsMost, cycleMost}
 use Rattle.model.specs.Network.{Request, circuitOf}
@@ -9,8 +10,7 @@ use Rattle.model.specs.Holding.{offsetsClash?}
 use Rattle.model.specs.Search.{clashOf}
 use Rattle.num_mask.specs.Bits.{bit}
 use Rattle.num_cyclic.specs.Ahead.{ahead}
-use Rattle.plan.specs.Rows.{RowsOf}
-use Rattle.clash_pair.specs.Bookings.{bookingAt}
+use Rattle.plan.specs.Plan.{circuitsIn, cycleIn, bookingIn, Stands}
 
 -- ---- offsets by the differences that clash
 
@@ -18,36 +18,40 @@ use Rattle.clash_pair.specs.Bookings.{bookingAt}
 pub record Barred (bad g d b r : ℕ) : Type 0 where
   pub bits : (a : ℕ) → a < d → bit r a ≡ bit bad (ahead g a b)
 
--- the entries from place first on are the offsets that clash with the offsets 0, 1, .. below e; the table is the old one before them
-pub record PairFilled (bad g d e first : ℕ) (old table : List ℕ) : Type 0 where
-  pub long : length table ≡ length old
-  pub kept : (i : ℕ) → i < first → getD table i 0 ≡ getD old i 0
-  pub rows : (b : ℕ) → b < e → Barred bad g d b (getD table (first + b) 0)
+-- the entries from place first on are the offsets that clash with the offsets 0, 1, .. below e; the grid is the old one before them
+pub record PairFilled (bad g d e first : ℕ) (old grid : List ℕ) : Type 0 where
+  pub long : length grid ≡ length old
+  pub kept : (i : ℕ) → i < first → getD grid i 0 ≡ getD old i 0
+  pub rows : (b : ℕ) → b < e → Barred bad g d b (getD grid (first + b) 0)
 
--- ---- a table of clashes: entry b of the pair of circuits c and e is the mask of the offsets of c that clash with offset b of e
+-- ---- a grid has an entry for each circuit c, each circuit e and each offset of e
 
--- where the entries of a pair begin
+abbrev pub gridSize : ℕ
+gridSize = circuitsMost * circuitsMost * cycleMost
+
+-- where those of c and e begin
 abbrev pub pairAt : (c e : ℕ) → ℕ
 pairAt c e = (c * circuitsMost + e) * cycleMost
 
-abbrev pub placeIn : (c e b : ℕ) → ℕ
-placeIn c e b = pairAt c e + b
+-- bit a of entry b: offset a of circuit c clashes with offset b of circuit e
+unfoldable pub clashIn : (grid : List ℕ) (c a e b : ℕ) → Bool
+clashIn grid c a e b = bit (getD grid (pairAt c e + b) 0) a
 
-abbrev pub tableSize : ℕ
-tableSize = circuitsMost * circuitsMost * cycleMost
+-- the grid is right about the first n circuits of q
+pub record Filled (q : Request) (n : ℕ) (grid : List ℕ) : Type 0 where
+  pub at : (c a e b : ℕ) → c < n → e < c → a < circuitOf q c .cycle → b < circuitOf q e .cycle → clashIn grid c a e b ≡ clashOf q c a e b
 
--- the pairs of the first n circuits are in the table
-pub record Filled (q : Request) (n : ℕ) (table : List ℕ) : Type 0 where
-  pub at : (c e a b : ℕ) → e < c → c < n → a < circuitOf q c .cycle → b < circuitOf q e .cycle
-      → bit (getD table (placeIn c e b) 0) a ≡ clashOf q c a e b
+-- whatever request the plan stands for
+abbrev pub FilledFor : (p grid : List ℕ) → Type 0
+FilledFor p grid = (q : Request) → Stands q p → Filled q (circuitsIn p) grid
 
--- by the rows: the entries of circuit c with the circuits below n are right, and the table is the old one before them
-pub record CircuitFilled (cycles counts whats afters : List ℕ) (c n : ℕ) (old table : List ℕ) : Type 0 where
-  pub long : length table ≡ length old
-  pub kept : (i : ℕ) → i < pairAt c 0 → getD table i 0 ≡ getD old i 0
-  pub at : (e a b : ℕ) → e < n → a < getD cycles c 0 → b < getD cycles e 0
-      → bit (getD table (placeIn c e b) 0) a ≡ offsetsClash? (bookingAt cycles counts whats afters c 0) a (bookingAt cycles counts whats afters e 0) b
+-- ---- by the plan
 
--- whatever request the rows stand for
-abbrev pub FilledFor : (n : ℕ) (cycles counts whats afters table : List ℕ) → Type 0
-FilledFor n cycles counts whats afters table = (q : Request) → RowsOf q n cycles counts whats afters → Filled q n table
+unfoldable pub planClash : (p : List ℕ) (c a e b : ℕ) → Bool
+planClash p c a e b = offsetsClash? (bookingIn p [] c) a (bookingIn p [] e) b
+
+-- the entries of circuit c with the circuits below n are right, and the grid is the old one before them
+pub record CircuitFilled (p : List ℕ) (c n : ℕ) (old grid : List ℕ) : Type 0 where
+  pub long : length grid ≡ length old
+  pub kept : (i : ℕ) → i < pairAt c 0 → getD grid i 0 ≡ getD old i 0
+  pub at : (e a b : ℕ) → e < n → a < cycleIn p c → b < cycleIn p e → clashIn grid c a e b ≡ planClash p c a e b

@@ -1,4 +1,5 @@
--- From the code's form to the definition: with a table that is right, the search of the code's numbers is the search of the request. Assumes nothing.
+-- From the code's form to the definition: with a grid that is right, the search of a plan is the search of the request that it stands for.
+-- Assumes nothing.
 use mathlib.Core.Path.{_≡_, refl, sym, ap, _∙_, fun-ext}
 use mathlib.Core.Bool.{Bool}
 use mathlib.Core.List.{List, [], _∷_, _++_, map}
@@ -9,7 +10,10 @@ use Rattle.model.specs.Network.{Request, Circuit, noCircuit}
 use Rattle.model.specs.Search.{Walk, search, whole}
 use Rattle.model.proofs.Tests.{upTo-back, getD-map}
 use Rattle.model.proofs.SameSearch.{whole-same}
-use Rattle.slot_search.specs.Code.{circuitIn, circuits, clashIn, Right, NumbersOf}
+use Rattle.plan.specs.Plan.{circuitsIn, Stands}
+use Rattle.plan.proofs.Laws.{cycle-is, demand-is}
+use Rattle.slot_grid.specs.Table.{clashIn, Filled}
+use Rattle.slot_search.specs.Code.{pathless, circuits}
 
 -- a circuit without its path
 abbrev bare : Circuit → Circuit
@@ -24,19 +28,19 @@ search-bare clash (x ∷ xs) earlier =
     fun-ext (λ os. search-bare clash xs (earlier ++ (os ∷ []))) in
     rw next refl
 
-module _ (q : Request) (table cycles demands : List ℕ) (numbers : NumbersOf q cycles demands) (right : Right q table) where
-  circuits-bare : circuits cycles demands ≡ map bare (q .circuits)
+module _ {q : Request} {p : List ℕ} (s : Stands q p) where
+  circuits-bare : circuits p ≡ map bare (q .circuits)
   unfolding circuits
   circuits-bare =
       let len = length-map (q .circuits) bare in
-      let many : length cycles ≡ length (map bare (q .circuits)) = numbers .many ∙ sym len in
-      rw many
-      (upTo-back (map bare (q .circuits)) (circuitIn cycles demands) noCircuit (λ c h.
+      rw (s .many ∙ sym len)
+      (upTo-back (map bare (q .circuits)) (pathless p) noCircuit (λ c h.
+      let listed : c < circuitsIn p = omega (arith, s .many) in
       let k : c < length (q .circuits) = omega arith in
-      rw (numbers .cycle c k, numbers .demand c k) (sym (getD-map bare (q .circuits) c noCircuit noCircuit k))))
+      rw (cycle-is s listed, demand-is s listed) (sym (getD-map bare (q .circuits) c noCircuit noCircuit k))))
 
-  pub bridge : search (clashIn table) (circuits cycles demands) [] ≡ whole q
-  bridge =
-      ap (λ (xs : List Circuit). search (clashIn table) xs []) circuits-bare
-      ∙ search-bare (clashIn table) (q .circuits) []
-      ∙ whole-same q (clashIn table) (right .right)
+  pub bridge : {grid : List ℕ} → Filled q (circuitsIn p) grid → search (clashIn grid) (circuits p) [] ≡ whole q
+  bridge {grid} right =
+      ap (λ (xs : List Circuit). search (clashIn grid) xs []) circuits-bare
+      ∙ search-bare (clashIn grid) (q .circuits) []
+      ∙ whole-same q (clashIn grid) (rw (s .many) at right .at)

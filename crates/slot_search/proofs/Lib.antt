@@ -1,4 +1,4 @@
--- What the proofs of the functions use, and from a table that is right to the definition's search. Assumes nothing.
+-- What the proofs of the functions use, and from a grid that is right to the definition's search. Assumes nothing.
 mod WordLaws
 mod WalkLaws
 mod EndsLaws

@@ -7,7 +7,7 @@ use Prim.Native.Nat.{ℕ, zero, suc, _+_, _-_, _*_, _/_, _%_, _^_, _≤_, _<_}
 use native.Mathlib.Nat.{lt-of-lt-of-le, add-zero, sub-zero}
 use native.Mathlib.Decide.{decLt}
 use native.Mathlib.Omega.{arith}
-use lib.ListN.{length, getD, take, set}
+use lib.ListN.{length, take, set}
 use lib.Pow.{pow-mono}
 use lib.Dec.{ltb}
 use lib.Count.{ones}
@@ -18,7 +18,8 @@ use Rattle.model.specs.Tests.{_and_, neg}
 use Rattle.model.specs.Search.{Walk, choice, thenTry}
 use Rattle.num_mask.specs.Bits.{bit, offsets, Above}
 use Rattle.num_mask.proofs.Laws.{offsets-length, offsets-more}
-use Rattle.slot_search.specs.Code.{Cell, SkippedTo, fromCell, Ends, CircuitEnds, CellEnds}
+use Rattle.plan.specs.Plan.{circuitsIn, cycleIn, demandIn, Fit}
+use Rattle.slot_search.specs.Code.{Inside, SkippedTo, fromCell, Ends, CircuitEnds, CellEnds}
 use Rattle.slot_search.specs.declared.Outcome.{Outcome}
 use Rattle.slot_search.specs.declared.Outcome.the-variants.{Found, NoRoom, Over}
 use Rattle.slot_search.proofs.WalkLaws.{fromTake, fromSkip, cell-split}
@@ -26,22 +27,22 @@ use Rattle.slot_search.proofs.EndsLaws.{ends-same, ends-visit, ends-bro
 use Rattle.slot_search.proofs.CellLaws.{skip-no, skip-yes, ends-circuit}
 
 -- at cell a of circuit c, with the masks `now` and `left` visits to spare
-pub record Turn (table cycles demands : List ℕ) (c from mask shut budget : ℕ) (old now : List ℕ) (a left : ℕ) : Type 0 where
+pub record Turn (grid p : List ℕ) (c from mask shut budget : ℕ) (old now : List ℕ) (a left : ℕ) : Type 0 where
   pub started : from ≤ a
-  pub within : a ≤ getD cycles c 0
-  pub short : getD cycles c 0 ≤ cycleMost
+  pub within : a ≤ cycleIn p c
+  pub fit : Fit p c
   pub low : mask < 2 ^ a
   pub sized : length now ≡ length old
   pub kept : take c now ≡ take c old
   pub goes-on :
-      (new : List ℕ) (r : Outcome) → CellEnds table cycles demands c a mask shut left now new r → CellEnds table cycles demands c from mask shut budget old new r
+      (new : List ℕ) (r : Outcome) → CellEnds grid p c a mask shut left now new r → CellEnds grid p c from mask shut budget old new r
 
-pub turn-start : (table cycles demands : List ℕ) (c from mask shut budget : ℕ) (old : List ℕ) → Cell cycles c from mask → getD cycles c 0 ≤ cycleMost
-    → Turn table cycles demands c from mask shut budget old old from budget
-turn-start table cycles demands c from mask shut budget old h d = record {
+pub turn-start : (grid p : List ℕ) (c from mask shut budget : ℕ) (old : List ℕ) → Inside p c from mask → Fit p c
+    → Turn grid p c from mask shut budget old old from budget
+turn-start grid p c from mask shut budget old h f = record {
   started = omega arith;
   within = h .within;
-  short = d;
+  fit = f;
   low = h .low;
   sized = refl;
   kept = refl;
@@ -53,43 +54,43 @@ unfolding _and_
 and-no true = refl
 and-no false = refl
 
-module _ {table cycles demands : List ℕ} {c from mask shut budget : ℕ} {old now : List ℕ} {a left : ℕ}
-    (t : Turn table cycles demands c from mask shut budget old now a left) where
+module _ {grid p : List ℕ} {c from mask shut budget : ℕ} {old now : List ℕ} {a left : ℕ}
+    (t : Turn grid p c from mask shut budget old now a left) where
   abbrev D : ℕ
-  D = getD cycles c 0
+  D = cycleIn p c
 
   abbrev N : ℕ
-  N = getD demands c 0
+  N = demandIn p c
 
   abbrev before : List (List ℕ)
   before = map offsets (take c now)
 
   -- the walk from the loop's start came to r
   abbrev pub Whole : List ℕ → Outcome → Type 0
-  Whole new r = CellEnds table cycles demands c from mask shut budget old new r
+  Whole new r = CellEnds grid p c from mask shut budget old new r
 
   abbrev on : Walk
-  on = fromCell table cycles demands c shut before (D - (a + 1)) (a + 1) (offsets mask ++ (a ∷ []))
+  on = fromCell grid p c shut before (D - (a + 1)) (a + 1) (offsets mask ++ (a ∷ []))
 
   abbrev taking : Walk
-  taking = fromTake table cycles demands c before shut (D - (a + 1)) a (offsets mask)
+  taking = fromTake grid p c before shut (D - (a + 1)) a (offsets mask)
 
   abbrev skipping : List ℕ → Walk
-  skipping mid = fromSkip table cycles demands c (map offsets (take c mid)) shut (D - (a + 1)) a (offsets mask)
+  skipping mid = fromSkip grid p c (map offsets (take c mid)) shut (D - (a + 1)) a (offsets mask)
 
   -- the walk where the cell is taken came to r
   abbrev pub Tried : List ℕ → Outcome → Type 0
-  Tried mid r = Ends taking (length cycles) c left now mid r
+  Tried mid r = Ends taking (circuitsIn p) c left now mid r
 
   -- what the code's call for a cell that is taken ensures
   abbrev pub Called : List ℕ → Outcome → Type 0
-  Called mid r = CellEnds table cycles demands c (a + 1) (bitOr mask ((1 * 2 ^ a) % 2 ^ cycleMost)) shut (left - 1) now mid r
+  Called mid r = CellEnds grid p c (a + 1) (bitOr mask ((1 * 2 ^ a) % 2 ^ cycleMost)) shut (left - 1) now mid r
 
   pub word : mask < 2 ^ cycleMost
-  word = lt-of-lt-of-le (t .low) (pow-mono {i = a} {j = cycleMost} (let x = t .within in let y = t .short in omega arith))
+  word = lt-of-lt-of-le (t .low) (pow-mono {i = a} {j = cycleMost} (let x = t .within in let y = t .fit .cycle .high in omega arith))
 
   pub above : a < D → Above mask a
-  above i = let x = t .short in record { inside = omega arith; low = t .low }
+  above i = let x = t .fit .cycle .high in record { inside = omega arith; low = t .low }
 
   -- ---- whether take is allowed
 
@@ -124,7 +125,7 @@ module _ {table cycles demands : List ℕ} {c from mask shut budget : ℕ} {old 
   tried-by i l h z {mid} {r} {o} e g =
       ends-same (sym (take-open l h))
       (ends-visit left (omega arith)
-      (ends-same (ap (λ (k : List ℕ). fromCell table cycles demands c shut before (D - (a + 1)) (a + 1) k) (offsets-more (above i) .parts))
+      (ends-same (ap (λ (k : List ℕ). fromCell grid p c shut before (D - (a + 1)) (a + 1) k) (offsets-more (above i) .parts))
       (subst (λ (q : Outcome). Called mid q) e g)))
 
   -- where the ways through a cell meet, with the masks `new` and k visits to spare: it was tried and came to nothing, or was not allowed
@@ -133,16 +134,16 @@ module _ {table cycles demands : List ℕ} {c from mask shut budget : ℕ} {old 
 
   pub tried : a < D → ones mask < N → shut / 2 ^ a % 2 ≡ 0 → (left ≡ 0 → ⊥) → {mid new : List ℕ} {r : Outcome} {m k : ℕ}
       → r ≡ NoRoom m → Called mid r → length mid ≡ length now → new ≡ mid → k ≡ m → Nothing new k
-  tried i l h z {mid} {new} {r} {m} {k} e g s p q = rw (p, q) (s, tried-by i l h z e g)
+  tried i l h z {mid} {new} {r} {m} {k} e g s x y = rw (x, y) (s, tried-by i l h z e g)
 
   not-taken : {new : List ℕ} {k : ℕ} → taking ≡ choice false on → new ≡ now → k ≡ left → Nothing new k
-  not-taken e p q = rw (p, q) (refl, ends-same (sym e) (ends-shut on left))
+  not-taken e x y = rw (x, y) (refl, ends-same (sym e) (ends-shut on left))
 
   pub not-free : (shut / 2 ^ a % 2 ≡ 0 → ⊥) → {new : List ℕ} {k : ℕ} → new ≡ now → k ≡ left → Nothing new k
-  not-free h p q = not-taken (take-barred h) p q
+  not-free h x y = not-taken (take-barred h) x y
 
   pub not-wanted : N ≤ ones mask → {new : List ℕ} {k : ℕ} → new ≡ now → k ≡ left → Nothing new k
-  not-wanted h p q = not-taken (take-full h) p q
+  not-wanted h x y = not-taken (take-full h) x y
 
   pub nothing-long : {new : List ℕ} {k : ℕ} → Nothing new k → length new ≡ length old
   nothing-long h = h .0 ∙ t .sized
@@ -150,8 +151,8 @@ module _ {table cycles demands : List ℕ} {c from mask shut budget : ℕ} {old 
   -- ---- the ways out of a turn, and on to the next
 
   module _ (inside : a < D) where
-    split : fromCell table cycles demands c shut before (D - a) a (offsets mask) ≡ thenTry taking (skipping now)
-    split = cell-split table cycles demands c before shut D a (offsets mask) inside
+    split : fromCell grid p c shut before (D - a) a (offsets mask) ≡ thenTry taking (skipping now)
+    split = cell-split grid p c before shut D a (offsets mask) inside
 
     pub out-found : ones mask < N → shut / 2 ^ a % 2 ≡ 0 → (left ≡ 0 → ⊥) → {mid : List ℕ} {r : Outcome} {k : ℕ} → r ≡ Found k → Called mid r → Whole mid (Found k)
     out-found l h z {mid} {r} {k} e g = t .goes-on mid (Found k) (ends-same (sym split) (ends-first (skipping now) (tried-by inside l h z e g)))
@@ -162,21 +163,21 @@ module _ {table cycles demands : List ℕ} {c from mask shut budget : ℕ} {old 
     pub out-spent : ones mask < N → shut / 2 ^ a % 2 ≡ 0 → left ≡ 0 → Whole now Over
     out-spent l h z = t .goes-on now Over (ends-same (sym split) (ends-over (skipping now) (ends-same (sym (take-open l h)) (ends-broke on left z))))
 
-    after-take : {mid new : List ℕ} {k : ℕ} {r : Outcome} → Nothing mid k → Ends (skipping mid) (length cycles) c k mid new r → Whole new r
+    after-take : {mid new : List ℕ} {k : ℕ} {r : Outcome} → Nothing mid k → Ends (skipping mid) (circuitsIn p) c k mid new r → Whole new r
     after-take {mid} {new} {k} {r} h g =
         let same : skipping mid ≡ skipping now =
-        ap (λ (x : List ℕ). fromSkip table cycles demands c (map offsets x) shut (D - (a + 1)) a (offsets mask)) (h .1 .kept) in
+        ap (λ (x : List ℕ). fromSkip grid p c (map offsets x) shut (D - (a + 1)) a (offsets mask)) (h .1 .kept) in
         t .goes-on new r (ends-same (sym split) (ends-second (h .1) (ends-same same g)))
 
     -- the walk past the cell, which is the skip where that is allowed
     abbrev past : List ℕ → Walk
-    past mid = fromCell table cycles demands c shut (map offsets (take c mid)) (D - (a + 1)) (a + 1) (offsets mask)
+    past mid = fromCell grid p c shut (map offsets (take c mid)) (D - (a + 1)) (a + 1) (offsets mask)
 
     allowed : (mid : List ℕ) → N + a < D + ones mask → choice true (past mid) ≡ skipping mid
-    allowed mid q = sym (skip-yes table cycles demands c (map offsets (take c mid)) shut D a mask word inside q)
+    allowed mid q = sym (skip-yes grid p c (map offsets (take c mid)) shut D a mask word inside q)
 
     not-allowed : (mid : List ℕ) → D + ones mask ≤ N + a → choice false (past mid) ≡ skipping mid
-    not-allowed mid q = sym (skip-no table cycles demands c (map offsets (take c mid)) shut D a mask word inside q)
+    not-allowed mid q = sym (skip-no grid p c (map offsets (take c mid)) shut D a mask word inside q)
 
     pub out-shut : {mid : List ℕ} {k : ℕ} → Nothing mid k → D + ones mask ≤ N + a → Whole mid (NoRoom k)
     out-shut {mid} {k} h q = after-take h (ends-same (not-allowed mid q) (ends-shut (past mid) k))
@@ -185,13 +186,13 @@ module _ {table cycles demands : List ℕ} {c from mask shut budget : ℕ} {old 
     out-broke {mid} {k} h q z = after-take h (ends-same (allowed mid q) (ends-broke (past mid) k z))
 
     pub turn-again : {mid : List ℕ} {k : ℕ} → Nothing mid k → N + a < D + ones mask → (k ≡ 0 → ⊥)
-        → Turn table cycles demands c from mask shut budget old mid (a + 1) (k - 1)
-    turn-again {mid} {k} h q p =
+        → Turn grid p c from mask shut budget old mid (a + 1) (k - 1)
+    turn-again {mid} {k} h q z =
         let s = t .started in
         record {
           started = omega arith;
           within = omega arith;
-          short = t .short;
+          fit = t .fit;
           low = lt-of-lt-of-le (t .low) (pow-mono {i = a} {j = a + 1} (omega arith));
           sized = h .0 ∙ t .sized;
           kept = h .1 .kept ∙ t .kept;
@@ -199,11 +200,11 @@ module _ {table cycles demands : List ℕ} {c from mask shut budget : ℕ} {old 
         }
 
   -- the last cell is behind
-  pub out-end : D ≤ a → c < length cycles → length cycles ≤ length now → {new : List ℕ} {r : Outcome}
-      → CircuitEnds table cycles demands (c + 1) left (set now c mask) new r → Whole new r
-  out-end e p q {new} {r} h =
+  pub out-end : D ≤ a → c < circuitsIn p → circuitsIn p ≤ length now → {new : List ℕ} {r : Outcome}
+      → CircuitEnds grid p (c + 1) left (set now c mask) new r → Whole new r
+  out-end e listed room {new} {r} h =
       let w = t .within in
-      t .goes-on new r (ends-circuit table cycles demands c shut a mask left now new r (omega arith) p q h)
+      t .goes-on new r (ends-circuit grid p c shut a mask left now new r (omega arith) listed room h)
 
 -- ---- cells that can only be skipped
 
@@ -211,17 +212,17 @@ set-bit : (x i : ℕ) → bit x i ≡ true → x / 2 ^ i % 2 ≡ 0 → ⊥
 unfolding bit
 set-bit x i e z = omega (arith, eqb-true (x / 2 ^ i % 2) 1 e)
 
-module _ {table cycles demands : List ℕ} {c from mask shut budget : ℕ} {old now : List ℕ} {a left r : ℕ}
-    (t : Turn table cycles demands c from mask shut budget old now a left)
-    (s : SkippedTo shut a (getD cycles c 0) (getD demands c 0) (ones mask) r) where
+module _ {grid p : List ℕ} {c from mask shut budget : ℕ} {old now : List ℕ} {a left r : ℕ}
+    (t : Turn grid p c from mask shut budget old now a left)
+    (s : SkippedTo shut a (cycleIn p c) (demandIn p c) (ones mask) r) where
   abbrev At : ℕ → ℕ → Type 0
-  At = Turn table cycles demands c from mask shut budget old now
+  At = Turn grid p c from mask shut budget old now
 
   -- at one of them, with k visits to spare
   only-skipped : (i k : ℕ) → a ≤ i → i < r → (u : At i k) → Nothing u now k
-  only-skipped i k l h u = go (decLt (ones mask) (getD demands c 0))
+  only-skipped i k l h u = go (decLt (ones mask) (demandIn p c))
     where
-      go : Dec (ones mask < getD demands c 0) → Nothing u now k
+      go : Dec (ones mask < demandIn p c) → Nothing u now k
       go (yes wanted) = not-free u (set-bit shut i (s .none i l h wanted)) refl refl
       go (no full) = not-wanted u (omega arith) refl refl
 

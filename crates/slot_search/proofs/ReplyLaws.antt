@@ -4,11 +4,12 @@ use mathlib.Core.Bool.{Bool, true, false, cond}
 use mathlib.Core.List.{List, []}
 use Prim.Native.Nat.{ℕ, _-_, _≤_, zero-le}
 use native.Mathlib.Omega.{arith}
-use lib.ListN.{length}
 use lib.Dec.{leb}
 use borrow.Author.Tests.{leb-true}
 use Rattle.model.specs.Search.{Walk, found, noRoom, search, Reply, slots, full, unfinished, reply}
-use Rattle.slot_search.specs.Code.{circuits, clashIn, fromCircuit, cut, assigned, Ends, CircuitEnds, Replies}
+use Rattle.plan.specs.Plan.{circuitsIn}
+use Rattle.slot_grid.specs.Table.{clashIn}
+use Rattle.slot_search.specs.Code.{circuits, fromCircuit, cut, assigned, Ends, CircuitEnds, Replies}
 use Rattle.slot_search.specs.declared.Outcome.{Outcome}
 use Rattle.slot_search.specs.declared.Outcome.the-variants.{Found, NoRoom, Over}
 use Rattle.slot_search.specs.declared.Allotted.{Allotted}
@@ -70,12 +71,12 @@ reply-told (Found k) h = let m = h .holds k refl in record { to-slots = λ v os 
 reply-told (NoRoom k) h = record { to-slots = λ v os e. (cc, cc); to-full = λ v e. cc; to-unfinished = λ e. cc }
 reply-told Over h = record { to-slots = λ v os e. (cc, cc); to-full = λ v e. cc; to-unfinished = λ e. refl }
 
-pub replied : (table cycles demands : List ℕ) {l : ℕ} {old new : List ℕ} {r o : Outcome} → r ≡ o
-    → CircuitEnds table cycles demands 0 l old new r
-    → Replies (reply l (search (clashIn table) (circuits cycles demands) [])) (length cycles) new (allotted l o)
+pub replied : (grid p : List ℕ) {l : ℕ} {old new : List ℕ} {r o : Outcome} → r ≡ o
+    → CircuitEnds grid p 0 l old new r
+    → Replies (reply l (search (clashIn grid) (circuits p) [])) (circuitsIn p) new (allotted l o)
 unfolding fromCircuit
-replied table cycles demands {l} {old} {new} {r} {o} e h =
-    let n = length cycles in
-    let w = search (clashIn table) (circuits cycles demands) [] in
+replied grid p {l} {old} {new} {r} {o} e h =
+    let n = circuitsIn p in
+    let w = search (clashIn grid) (circuits p) [] in
     let g : Ends w n 0 l old new o = subst (λ (x : Outcome). Ends w n 0 l old new x) e h in
     rw (reply-cut l w, ← g .answer) (reply-told o g)

@@ -16,63 +16,65 @@ use Rattle.model.specs.Search.{Walk, found, barred, cells, choice, thenTry, sea
 use Rattle.model.proofs.Tests.{length-upTo, getD-upTo}
 use Rattle.num_mask.specs.Bits.{bit, offsets}
 use Rattle.num_mask.proofs.Laws.{bit-or, offsets-zero}
-use Rattle.slot_search.specs.Code.{circuitIn, circuits, entries, clashIn, gathered, fromCircuit, fromCell}
+use Rattle.plan.specs.Plan.{circuitsIn, cycleIn, demandIn}
+use Rattle.slot_grid.specs.Table.{pairAt, clashIn}
+use Rattle.slot_search.specs.Code.{pathless, circuits, gathered, fromCircuit, fromCell}
 
 -- ---- what the earlier circuits shut
 
-gathered-bit : (table : List ℕ) (base x i : ℕ) (l : List ℕ) → bit (gathered table base x l) i ≡ (bit x i || any (λ a. bit (getD table (base + a) 0) i) l)
+gathered-bit : (grid : List ℕ) (base x i : ℕ) (l : List ℕ) → bit (gathered grid base x l) i ≡ (bit x i || any (λ a. bit (getD grid (base + a) 0) i) l)
 unfolding gathered any
-gathered-bit table base x i [] = sym (or-false (bit x i))
-gathered-bit table base x i (a ∷ more) =
-    gathered-bit table base (bitOr x (getD table (base + a) 0)) i more
-    ∙ ap (λ (b : Bool). b || any (λ a. bit (getD table (base + a) 0) i) more) (bit-or x (getD table (base + a) 0) i)
-    ∙ or-assoc (bit x i) (bit (getD table (base + a) 0) i) (any (λ a. bit (getD table (base + a) 0) i) more)
+gathered-bit grid base x i [] = sym (or-false (bit x i))
+gathered-bit grid base x i (a ∷ more) =
+    gathered-bit grid base (bitOr x (getD grid (base + a) 0)) i more
+    ∙ ap (λ (b : Bool). b || any (λ a. bit (getD grid (base + a) 0) i) more) (bit-or x (getD grid (base + a) 0) i)
+    ∙ or-assoc (bit x i) (bit (getD grid (base + a) 0) i) (any (λ a. bit (getD grid (base + a) 0) i) more)
 
 -- the share of circuit e goes over to what is joined already
-pub shut-step : (table taken : List ℕ) (c e i acc : ℕ) → e < c → c ≤ length taken
-    → (bit (gathered table (entries c e) acc (offsets (getD taken e 0))) i || barred (clashIn table) c i (e + 1) (map offsets (drop (e + 1) (take c taken))))
-    ≡ (bit acc i || barred (clashIn table) c i e (map offsets (drop e (take c taken))))
+pub shut-step : (grid taken : List ℕ) (c e i acc : ℕ) → e < c → c ≤ length taken
+    → (bit (gathered grid (pairAt c e) acc (offsets (getD taken e 0))) i || barred (clashIn grid) c i (e + 1) (map offsets (drop (e + 1) (take c taken))))
+    ≡ (bit acc i || barred (clashIn grid) c i e (map offsets (drop e (take c taken))))
 unfolding barred clashIn
-shut-step table taken c e i acc l h =
+shut-step grid taken c e i acc l h =
     let inside : e < length (take c taken) = rw length-take (omega arith) in
     let same : getD (take c taken) e 0 ≡ getD taken e 0 = getD-take c taken e 0 l in
-    rw (drop-cons (take c taken) e 0 inside, same, add-one e, gathered-bit table (entries c e) acc i (offsets (getD taken e 0)))
-    (or-assoc (bit acc i) (any (clashIn table c i e) (offsets (getD taken e 0))) (barred (clashIn table) c i (suc e) (map offsets (drop (suc e) (take c taken)))))
+    rw (drop-cons (take c taken) e 0 inside, same, add-one e, gathered-bit grid (pairAt c e) acc i (offsets (getD taken e 0)))
+    (or-assoc (bit acc i) (any (clashIn grid c i e) (offsets (getD taken e 0))) (barred (clashIn grid) c i (suc e) (map offsets (drop (suc e) (take c taken)))))
 
-pub shut-done : (table taken : List ℕ) (c e i : ℕ) → c ≤ e → barred (clashIn table) c i e (map offsets (drop e (take c taken))) ≡ false
+pub shut-done : (grid taken : List ℕ) (c e i : ℕ) → c ≤ e → barred (clashIn grid) c i e (map offsets (drop e (take c taken))) ≡ false
 unfolding barred
-shut-done table taken c e i h =
+shut-done grid taken c e i h =
     let past : length (take c taken) ≤ e = rw length-take (omega arith) in
     rw (drop-of-length-le (take c taken) past) refl
 
 -- ---- the walk
 
-module _ (table cycles demands : List ℕ) (c : ℕ) (earlier : List (List ℕ)) where
-  pub circuit-end : c ≡ length cycles → fromCircuit table cycles demands c earlier ≡ found 0 earlier
+module _ (grid p : List ℕ) (c : ℕ) (earlier : List (List ℕ)) where
+  pub circuit-end : c ≡ circuitsIn p → fromCircuit grid p c earlier ≡ found 0 earlier
   unfolding fromCircuit circuits search
   circuit-end l =
-      let past : length (circuits cycles demands) ≤ c = omega (arith, length-upTo (length cycles) (circuitIn cycles demands)) in
-      rw (drop-of-length-le (circuits cycles demands) past) refl
+      let past : length (circuits p) ≤ c = omega (arith, length-upTo (circuitsIn p) (pathless p)) in
+      rw (drop-of-length-le (circuits p) past) refl
 
   -- circuit c, and the others behind it
-  first : c < length cycles → drop c (circuits cycles demands) ≡ circuitIn cycles demands c ∷ drop (suc c) (circuits cycles demands)
+  first : c < circuitsIn p → drop c (circuits p) ≡ pathless p c ∷ drop (suc c) (circuits p)
   unfolding circuits
   first l =
-      let inside : c < length (circuits cycles demands) = omega (arith, length-upTo (length cycles) (circuitIn cycles demands)) in
-      drop-cons (circuits cycles demands) c noCircuit inside
-      ∙ ap (λ (x : Circuit). x ∷ drop (suc c) (circuits cycles demands)) (getD-upTo (length cycles) (circuitIn cycles demands) c noCircuit l)
+      let inside : c < length (circuits p) = omega (arith, length-upTo (circuitsIn p) (pathless p)) in
+      drop-cons (circuits p) c noCircuit inside
+      ∙ ap (λ (x : Circuit). x ∷ drop (suc c) (circuits p)) (getD-upTo (circuitsIn p) (pathless p) c noCircuit l)
 
-  pub circuit-enter : (shut : ℕ) → c < length cycles → length earlier ≡ c
-      → ((i : ℕ) → bit shut i ≡ barred (clashIn table) c i 0 earlier)
-      → fromCircuit table cycles demands c earlier ≡ fromCell table cycles demands c shut earlier (getD cycles c 0 - 0) 0 (offsets 0)
+  pub circuit-enter : (shut : ℕ) → c < circuitsIn p → length earlier ≡ c
+      → ((i : ℕ) → bit shut i ≡ barred (clashIn grid) c i 0 earlier)
+      → fromCircuit grid p c earlier ≡ fromCell grid p c shut earlier (cycleIn p c - 0) 0 (offsets 0)
   unfolding fromCircuit fromCell search
   circuit-enter shut l q h =
-      let free : _≡_ {A = ℕ → Bool} (λ i. neg (barred (clashIn table) (length earlier) i 0 earlier)) (λ i. neg (bit shut i)) =
-      fun-ext (λ i. ap neg (ap (λ (k : ℕ). barred (clashIn table) k i 0 earlier) q ∙ sym (h i))) in
-      rw (first l, free, sub-zero (getD cycles c 0), offsets-zero, add-one c) refl
+      let free : _≡_ {A = ℕ → Bool} (λ i. neg (barred (clashIn grid) (length earlier) i 0 earlier)) (λ i. neg (bit shut i)) =
+      fun-ext (λ i. ap neg (ap (λ (k : ℕ). barred (clashIn grid) k i 0 earlier) q ∙ sym (h i))) in
+      rw (first l, free, sub-zero (cycleIn p c), offsets-zero, add-one c) refl
 
   pub cell-end : (shut d a : ℕ) (taken : List ℕ) → a ≡ d
-      → fromCell table cycles demands c shut earlier (d - a) a taken ≡ fromCircuit table cycles demands (c + 1) (earlier ++ (taken ∷ []))
+      → fromCell grid p c shut earlier (d - a) a taken ≡ fromCircuit grid p (c + 1) (earlier ++ (taken ∷ []))
   unfolding fromCell cells
   cell-end shut d a taken e =
       let none : d - a ≡ 0 = omega arith in
@@ -81,13 +83,13 @@ module _ (table cycles demands : List ℕ) (c : ℕ) (earlier : List (List ℕ))
   -- the walk where cell a is taken, and where it is skipped, with `left` cells behind it
   module _ (shut left a : ℕ) (taken : List ℕ) where
     unfoldable pub fromTake : Walk
-    fromTake = choice (ltb (length taken) (getD demands c 0) and neg (bit shut a)) (fromCell table cycles demands c shut earlier left (a + 1) (taken ++ (a ∷ [])))
+    fromTake = choice (ltb (length taken) (demandIn p c) and neg (bit shut a)) (fromCell grid p c shut earlier left (a + 1) (taken ++ (a ∷ [])))
 
     unfoldable pub fromSkip : Walk
-    fromSkip = choice (leb (getD demands c 0) (length taken + left)) (fromCell table cycles demands c shut earlier left (a + 1) taken)
+    fromSkip = choice (leb (demandIn p c) (length taken + left)) (fromCell grid p c shut earlier left (a + 1) taken)
 
   pub cell-split : (shut d a : ℕ) (taken : List ℕ) → a < d
-      → fromCell table cycles demands c shut earlier (d - a) a taken ≡ thenTry (fromTake shut (d - (a + 1)) a taken) (fromSkip shut (d - (a + 1)) a taken)
+      → fromCell grid p c shut earlier (d - a) a taken ≡ thenTry (fromTake shut (d - (a + 1)) a taken) (fromSkip shut (d - (a + 1)) a taken)
   unfolding fromCell fromTake fromSkip cells
   cell-split shut d a taken l =
       let more : d - a ≡ suc (d - (a + 1)) = omega arith in

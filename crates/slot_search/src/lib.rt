@@ -4,12 +4,16 @@ ghost use mathlib.Core.Path.{_≡_};
 ghost use Prim.Native.Nat.{ℕ, _+_, _≤_, _<_};
 ghost use mathlib.Core.List.{[], map};
 ghost use lib.ListN.{length, take};
-ghost use Rattle.model.specs.Sizes.{cycleMost};
+ghost use Rattle.model.specs.Sizes.{circuitsMost, cycleMost};
 ghost use Rattle.model.specs.Search.{barred, search, reply};
 ghost use Rattle.num_mask.specs.Bits.{bit, offsets};
-ghost use Rattle.slot_search.specs.Code.{circuits, clashIn, Ready, Before, Cell, SkippedTo, CircuitEnds, CellEnds, gathered, Replies};
+ghost use Rattle.plan.specs.Plan.{circuitsIn};
+ghost use Rattle.slot_grid.specs.Table.{gridSize, clashIn};
+ghost use Rattle.slot_search.specs.Code.{circuits, Ready, Inside, SkippedTo, CircuitEnds, CellEnds, gathered, Replies};
 use model::CIRCUITS_MOST;
 use model::CYCLE_MOST;
+use plan::Plan;
+use slot_grid::Grid;
 
 // What a walk comes to: an answer with what is left of the budget, or that the budget is spent.
 enum Outcome {
@@ -18,53 +22,60 @@ enum Outcome {
     Over,
 }
 
-// The entries of the table at base + a for the set bits a of m, joined bit by bit with from.
-fn gather(table: &[u32], base: usize, m: u32, from: u32) -> u32
-    requires { ⌜ base + cycleMost ≤ length (now table) ⌝ }
-    ensures { λ r. ⌜ r ≡ gathered (now (table .entry)) base from (offsets m) ⌝ }
+// A cell of a circuit, which has taken the mask's offsets and whose offsets in `shut` are not free.
+struct Cell {
+    circuit: usize,
+    from: u32,
+    mask: u32,
+    shut: u32,
+}
+
+// The entries of the grid at base + a for the set bits a of m, joined bit by bit with from.
+fn gather(grid: &Grid, base: usize, m: u32, from: u32) -> u32
+    requires { ⌜ base + cycleMost ≤ gridSize ⌝ }
+    ensures { λ r. ⌜ r ≡ gathered (now (grid .entry)) base from (offsets m) ⌝ }
 {
     let mut acc = from;
     let mut rest = m;
     while rest != 0 {
         let a = u32::trailing_zeros(rest);
-        acc = acc | table[base + a as usize];
+        acc = acc | grid[base + a as usize];
         rest = rest & (rest - 1);
     }
     acc
 }
 
 // The offsets of circuit c that clash with one taken by an earlier circuit.
-fn blocked(table: &[u32], taken: &[u32], c: usize) -> u32
-    requires { ⌜ Before (now table) (now taken) c ⌝ }
-    ensures { λ r. ⌜ ((i : ℕ) → bit r i ≡ barred (clashIn (now (table .entry))) c i 0 (map offsets (take c (now (taken .entry))))) ⌝ }
+fn blocked(grid: &Grid, taken: &[u32], c: usize) -> u32
+    requires { ⌜ (c < circuitsMost) × (c ≤ length (now taken)) ⌝ }
+    ensures { λ r. ⌜ ((i : ℕ) → bit r i ≡ barred (clashIn (now (grid .entry))) c i 0 (map offsets (take c (now (taken .entry))))) ⌝ }
 {
     let mut acc: u32 = 0;
     let mut e = 0;
     while e < c {
-        acc = gather(table, (c * CIRCUITS_MOST + e) * CYCLE_MOST, taken[e], acc);
+        acc = gather(grid, (c * CIRCUITS_MOST + e) * CYCLE_MOST, taken[e], acc);
         e += 1;
     }
     acc
 }
 
 // The walk from circuit c on.
-fn enter(
-    table: &[u32],
-    cycles: &[u32],
-    demands: &[u32],
-    taken: &mut [u32],
-    c: usize,
-    left: u32,
-) -> Outcome
-    requires { ⌜ Ready (now table) (now cycles) (now demands) (now taken) ⌝ }
-    requires { ⌜ c ≤ length (now cycles) ⌝ }
-    ensures { λ r. ⌜ CircuitEnds (now (table .entry)) (now (cycles .entry)) (now (demands .entry)) c left (now (taken .entry)) (now (taken .exit)) r ⌝ }
+fn enter(grid: &Grid, p: &Plan, taken: &mut [u32], c: usize, left: u32) -> Outcome
+    requires { ⌜ Ready (now p) (now taken) ⌝ }
+    requires { ⌜ c ≤ circuitsIn (now p) ⌝ }
+    ensures { λ r. ⌜ CircuitEnds (now (grid .entry)) (now (p .entry)) c left (now (taken .entry)) (now (taken .exit)) r ⌝ }
 {
-    if c == cycles.len() {
+    if c == plan::circuits(p) {
         return Outcome::Found(left);
     }
-    let shut = blocked(table, taken, c);
-    walk(table, cycles, demands, taken, c, 0, 0, shut, left)
+    let shut = blocked(grid, taken, c);
+    let first = Cell {
+        circuit: c,
+        from: 0,
+        mask: 0,
+        shut: shut,
+    };
+    walk(grid, p, taken, first, left)
 }
 
 // The next cell of a circuit, from a on, that could be taken or may not be skipped, or else its end.
@@ -87,28 +98,20 @@ fn next_cell(shut: u32, a: u32, cycle: u32, demand: u32, have: u32) -> u32
     free
 }
 
-// The walk from cell `from` of circuit c on, whose taken offsets are the mask's bits and whose
-// offsets in `shut` are not free. A turn passes the cells that can only be skipped; then a cell is
-// taken where it is free, and where that comes to nothing it is skipped.
-fn walk(
-    table: &[u32],
-    cycles: &[u32],
-    demands: &[u32],
-    taken: &mut [u32],
-    c: usize,
-    from: u32,
-    mask: u32,
-    shut: u32,
-    budget: u32,
-) -> Outcome
-    requires { ⌜ Ready (now table) (now cycles) (now demands) (now taken) ⌝ }
-    requires { ⌜ Cell (now cycles) c from mask ⌝ }
-    ensures { λ r. ⌜ CellEnds (now (table .entry)) (now (cycles .entry)) (now (demands .entry)) c from mask shut budget (now (taken .entry)) (now (taken .exit)) r ⌝ }
+// The walk from a cell on. A turn passes the cells that can only be skipped; then a cell is taken where it is free, and where
+// that comes to nothing it is skipped.
+fn walk(grid: &Grid, p: &Plan, taken: &mut [u32], at: Cell, budget: u32) -> Outcome
+    requires { ⌜ Ready (now p) (now taken) ⌝ }
+    requires { ⌜ Inside (now p) (at .circuit) (at .from) (at .mask) ⌝ }
+    ensures { λ r. ⌜ CellEnds (now (grid .entry)) (now (p .entry)) (at .circuit) (at .from) (at .mask) (at .shut) budget (now (taken .entry)) (now (taken .exit)) r ⌝ }
 {
-    let cycle = cycles[c];
-    let demand = demands[c];
+    let c = at.circuit;
+    let mask = at.mask;
+    let shut = at.shut;
+    let cycle = plan::cycle(p, c) as u32;
+    let demand = plan::demand(p, c) as u32;
     let have = u32::count_ones(mask);
-    let mut a = from;
+    let mut a = at.from;
     let mut left = budget;
     while a < cycle {
         let next = next_cell(shut, a, cycle, demand, have);
@@ -125,16 +128,16 @@ fn walk(
                 return Outcome::Over;
             }
             let got = mask | (1u32 << a);
-            match walk(table, cycles, demands, taken, c, a + 1, got, shut, left - 1) {
-                Outcome::Found(rest) => {
-                    return Outcome::Found(rest);
-                }
-                Outcome::Over => {
-                    return Outcome::Over;
-                }
-                Outcome::NoRoom(rest) => {
-                    left = rest;
-                }
+            let behind = Cell {
+                circuit: c,
+                from: a + 1,
+                mask: got,
+                shut: shut,
+            };
+            match walk(grid, p, taken, behind, left - 1) {
+                Outcome::Found(rest) => return Outcome::Found(rest),
+                Outcome::Over => return Outcome::Over,
+                Outcome::NoRoom(rest) => left = rest,
             }
         }
         if cycle + have <= demand + a {
@@ -147,7 +150,7 @@ fn walk(
         a = a + 1;
     }
     taken[c] = mask;
-    enter(table, cycles, demands, taken, c + 1, left)
+    enter(grid, p, taken, c + 1, left)
 }
 
 // What the search comes to, with the visits that it took.
@@ -158,17 +161,11 @@ pub enum Allotted {
 }
 
 // The whole search, with at most `budget` visits: where it is Done the offsets are in the masks.
-pub fn allot(
-    table: &[u32],
-    cycles: &[u32],
-    demands: &[u32],
-    taken: &mut [u32],
-    budget: u32,
-) -> Allotted
-    requires { ⌜ Ready (now table) (now cycles) (now demands) (now taken) ⌝ }
-    ensures { λ r. ⌜ Replies (reply budget (search (clashIn (now (table .entry))) (circuits (now (cycles .entry)) (now (demands .entry))) [])) (length (now (cycles .entry))) (now (taken .exit)) r ⌝ }
+pub fn allot(grid: &Grid, p: &Plan, taken: &mut [u32], budget: u32) -> Allotted
+    requires { ⌜ Ready (now p) (now taken) ⌝ }
+    ensures { λ r. ⌜ Replies (reply budget (search (clashIn (now (grid .entry))) (circuits (now (p .entry))) [])) (circuitsIn (now (p .entry))) (now (taken .exit)) r ⌝ }
 {
-    match enter(table, cycles, demands, taken, 0, budget) {
+    match enter(grid, p, taken, 0, budget) {
         Outcome::Found(left) => Allotted::Done(budget - left),
         Outcome::NoRoom(left) => Allotted::Full(budget - left),
         Outcome::Over => Allotted::Unfinished,

@@ -1,6 +1,6 @@
--- What the answers of the layers below are in the words of the jobs. Assumes nothing.
-pub mod Jobs
+-- What the answers of the floors below are in the words of the jobs. Assumes nothing.
+pub mod Reading
+pub mod Loading
 pub mod Allotting
-pub mod Checks
 pub mod Makes
 pub mod Verifying

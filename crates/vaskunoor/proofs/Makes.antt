@@ -1,4 +1,4 @@
--- What the making of a table comes to in the words of the jobs, for `search`. Assumes nothing.
+-- What the making of a table comes to in the words of the job, for `search`. Assumes nothing.
 use Prim.Native.Nat.{ℕ, _≤_, _<_}
 use mathlib.Core.Path.{_≡_, refl, sym, ap, _∙_}
 use mathlib.Core.Bool.{Bool, true, false}
@@ -18,19 +18,17 @@ use Rattle.model.specs.Jobs.{Contract, make, Result, writes, unless, makeTables
 use Rattle.model.specs.declared.Answer.{Answer}
 use Rattle.model.specs.declared.Answer.the-variants.{Made, Short}
 use Rattle.model.proofs.Details.{details-fit}
+use Rattle.plan_refusal.specs.Found.{found}
+use Rattle.plan_refusal.specs.declared.Refusal.{Refusal}
+use Rattle.plan_refusal.specs.declared.Refusal.the-variants.{Nothing, Told}
+use Rattle.plan_load.specs.Loaded.{LoadsBoth}
+use Rattle.clash_first.specs.Held.{FirstIs}
 use Rattle.file_writer.specs.Files.{Wrote}
-use Rattle.line_maker.specs.Files.{CountsFit, TableFits, tableSize, WroteTable}
-use Rattle.line_maker.proofs.Tables.{rows-fit, table-size}
-use Rattle.call_checks.specs.Checked.{refusalOf, refusing, Checks}
-use Rattle.call_checks.specs.declared.Refusal.the-variants.{Nothing, Told}
-use Rattle.call_checks.specs.declared.Checked.{Checked}
+use Rattle.line_maker.specs.Files.{tableSize, WroteTable}
+use Rattle.line_maker.proofs.Tables.{table-size}
+use Rattle.vaskunoor.proofs.Loading.{else-assoc, refusing, refusing-unread, refusing-is, booked-here}
 
 -- ---- the job, by what speaks against it and by the room that there is
-
-else-assoc : {A : Type 0} (f g h : Option A) → f else g else h ≡ (f else g) else h
-unfolding _else_
-else-assoc none g h = refl
-else-assoc (some x) g h = refl
 
 -- the table
 abbrev tableOf : List ℕ → List ℕ → List ℕ
@@ -40,17 +38,14 @@ abbrev making : List ℕ → List ℕ → Option Answer → Result
 making bytes old o = unless o old (writes old (Made (length bytes)) bytes)
 
 module _ (req asg old : List ℕ) where
-  make-is : makeTables req asg old ≡ making (tableOf req asg) old (refusing req asg else shortFault (length (tableOf req asg)) old)
+  make-by : (o : Option Answer) → refusing req asg ≡ o → makeTables req asg old ≡ making (tableOf req asg) old (o else shortFault (length (tableOf req asg)) old)
   unfolding makeTables
-  make-is =
+  make-by o e =
       let r = requestFault req in
       let a = assignmentFault (request req) asg in
       let k = clashFault (request req) (assignment (request req) asg) in
       let s = shortFault (length (tableOf req asg)) old in
-      ap (making (tableOf req asg) old) (ap (λ o. r else o) (else-assoc a k s) ∙ else-assoc r (a else k) s)
-
-  make-by : (o : Option Answer) → refusing req asg ≡ o → makeTables req asg old ≡ making (tableOf req asg) old (o else shortFault (length (tableOf req asg)) old)
-  make-by o e = make-is ∙ ap (λ x. making (tableOf req asg) old (x else shortFault (length (tableOf req asg)) old)) e
+      ap (making (tableOf req asg) old) (ap (λ o. r else o) (else-assoc a k s) ∙ else-assoc r (a else k) s ∙ ap (λ x. x else s) e)
 
   make-refused : (a : Answer) → refusing req asg ≡ some a → Contract (make req asg old) a old
   unfolding _else_
@@ -72,46 +67,44 @@ module _ (req asg old : List ℕ) where
         go true h = (rw h at (details-fit (make req asg old) tt)) .first
         go false h = (rw h at (details-fit (make req asg old) tt)) .first
 
--- ---- k is what the checks came to
+-- ---- x is what loading told, and y the first clash
 
-module _ (req asg : List ℕ) (k : Checked) (g : Checks req asg k) where
-  pub make-told : (old : List ℕ) (a : Answer) → k .refusal ≡ Told a → Contract (make req asg old) a old
-  make-told old a t = make-refused req asg old a (sym (g .refusal) ∙ ap refusalOf t)
+module _ (req asg p m : List ℕ) (x : Refusal) (g : LoadsBoth req asg p m x) where
+  pub make-unread : (old : List ℕ) (a : Answer) → x ≡ Told a → Contract (make req asg old) a old
+  make-unread old a h = make-refused req asg old a (refusing-unread req asg p m x g a h)
 
-  module _ (n : k .refusal ≡ Nothing) where
-    nothing : refusing req asg ≡ none
-    nothing = sym (g .refusal) ∙ ap refusalOf n
+  module _ (n : x ≡ Nothing) (y : Refusal) (is : FirstIs p m y) where
+    pub make-clash : (old : List ℕ) (a : Answer) → y ≡ Told a → Contract (make req asg old) a old
+    make-clash old a h = make-refused req asg old a (refusing-is req asg p m x g n y is ∙ ap found h)
 
-    pub counts-fit : CountsFit (k .circuits) (k .counts) (k .masks)
-    counts-fit = rows-fit req _ _ _ _ _ _ _ _ (g .stands n) .counts-fit
+    module _ (k : y ≡ Nothing) where
+      nothing : refusing req asg ≡ none
+      nothing = refusing-is req asg p m x g n y is ∙ ap found k
 
-    -- the bytes that are needed
-    module _ (needed : ℕ) (e : needed ≡ tableSize (k .circuits) (k .counts) (k .masks)) where
-      needed-is : needed ≡ length (tableOf req asg)
-      needed-is = e ∙ sym (table-size req _ _ _ _ _ _ _ _ (g .stands n))
+      -- the bytes that are needed
+      module _ (needed : ℕ) (e : needed ≡ tableSize p m) where
+        needed-is : needed ≡ length (tableOf req asg)
+        needed-is = e ∙ sym (table-size (booked-here req asg p m x g n))
 
-      pub needed-fits : needed < detailEnd
-      needed-fits = omega (arith, needed-is, made-fits req asg [] nothing)
+        pub needed-fits : needed < detailEnd
+        needed-fits = omega (arith, needed-is, made-fits req asg [] nothing)
 
-      pub make-short : (old : List ℕ) → length old < needed → Contract (make req asg old) (Short needed) old
-      unfolding given
-      make-short old h =
-          let s = make-room req asg old nothing true (lt-ltb _ _ (rw needed-is at h)) in
-          record { answer = rw (s, needed-is) refl; area = rw s refl }
+        pub make-short : (old : List ℕ) → length old < needed → Contract (make req asg old) (Short needed) old
+        unfolding given
+        make-short old h =
+            let s = make-room req asg old nothing true (lt-ltb _ _ (rw needed-is at h)) in
+            record { answer = rw (s, needed-is) refl; area = rw s refl }
 
-      pub table-fits : (old : List ℕ) → needed ≤ length old → TableFits (k .circuits) (k .cycles) (k .counts) (k .whats) (k .afters) (k .masks) old
-      table-fits old h = record { rows = rows-fit req _ _ _ _ _ _ _ _ (g .stands n); room = omega (arith, e) }
+        -- what was written
+        module _ (old new : List ℕ) (h : needed ≤ length old) (r : ℕ) (w : WroteTable p m old new r) where
+          wrote-here : Wrote (tableOf req asg) old new r
+          wrote-here = w .wrote _ _ (booked-here req asg p m x g n)
 
-    -- what was written
-    module _ (old new : List ℕ) (r : ℕ) (w : WroteTable req (k .circuits) (k .cycles) (k .counts) (k .whats) (k .afters) (k .masks) old new r) where
-      wrote-here : Wrote (tableOf req asg) old new r
-      wrote-here = w .wrote (request req) (assignment (request req) asg) (g .stands n)
+          pub wrote-fits : r < detailEnd
+          wrote-fits = omega (arith, wrote-here .size, made-fits req asg [] nothing)
 
-      pub wrote-fits : r < detailEnd
-      wrote-fits = omega (arith, wrote-here .size, made-fits req asg [] nothing)
-
-      pub make-made : (needed : ℕ) → needed ≡ tableSize (k .circuits) (k .counts) (k .masks) → needed ≤ length old → Contract (make req asg old) (Made r) new
-      unfolding given
-      make-made needed e h =
-          let s = make-room req asg old nothing false (le-ltb _ _ (rw (needed-is needed e) at h)) in
-          record { answer = rw (s, wrote-here .size) refl; area = rw (s, wrote-here .area) refl }
+          pub make-made : Contract (make req asg old) (Made r) new
+          unfolding given
+          make-made =
+              let s = make-room req asg old nothing false (le-ltb _ _ (rw needed-is at h)) in
+              record { answer = rw (s, wrote-here .size) refl; area = rw (s, wrote-here .area) refl }

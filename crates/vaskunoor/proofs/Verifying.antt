@@ -1,88 +1,70 @@
 -- What was read of the three files in the words of the table check, for `search`. Assumes nothing.
-use Prim.Native.Nat.{ℕ, _*_, _<_}
-use mathlib.Core.Path.{_≡_, refl, sym, _∙_}
+use Prim.Native.Nat.{ℕ}
+use mathlib.Core.Path.{_≡_, refl, sym, ap, _∙_}
 use mathlib.Core.List.{List, []}
-use mathlib.Core.Option.{none}
-use lib.ListN.{length}
-use Rattle.model.specs.Sizes.{circuitsMost, requestFile, assignmentFile, tableFile, detailEnd}
+use mathlib.Core.Option.{Option}
+use Rattle.model.specs.Sizes.{tableFile}
 use Rattle.model.specs.Tests.{_else_, orElse}
-use Rattle.model.specs.Reading.{stopped, request, assignmentWalk, tableWalk}
-use Rattle.model.specs.Jobs.{Contract, verify, checkTables, assignmentFault}
-use Rattle.model.specs.declared.Fault.{Fault}
+use Rattle.model.specs.Holding.{clashFault}
+use Rattle.model.specs.Lines.{linesFault}
+use Rattle.model.specs.Reading.{request, assignment, tableWalk, table}
+use Rattle.model.specs.Jobs.{Contract, verify, checkTables, requestFault, assignmentFault, tableFault}
 use Rattle.model.specs.declared.Answer.{Answer}
-use Rattle.model.specs.declared.Answer.the-variants.{Damaged}
+use Rattle.model.specs.declared.Answer.the-variants.{Done}
 use Rattle.model.proofs.Readers.{table-byte-fits}
-use Rattle.file_records.specs.declared.Ending.the-variants.{Whole, Stopped}
-use Rattle.file_records.proofs.Endings.{ends-whole}
 use Rattle.file_table.specs.Parts.{linedOf}
 use Rattle.file_table.specs.declared.Lined.{Lined}
-use Rattle.file_table.proofs.Parts.{whole-is, stopped-is, lines-are}
-use Rattle.plan.specs.Rows.{usesMost}
-use Rattle.plan_load.specs.Loaded.{Holds, Loads, LoadsOffsets, Numbers}
-use Rattle.call_checks.specs.Checked.{AllRead}
-use Rattle.plan_load.specs.declared.Plan.{Plan}
-use Rattle.plan_load.specs.declared.Offsets.{Offsets}
-use Rattle.plan_load.proofs.Loading.{request-stops, stands-of, numbers-of, assignment-stops}
+use Rattle.file_table.proofs.Parts.{lines-are}
+use Rattle.plan_refusal.specs.Found.{found}
+use Rattle.plan_refusal.specs.declared.Refusal.{Refusal}
+use Rattle.plan_refusal.specs.declared.Refusal.the-variants.{Nothing, Told}
+use Rattle.plan_load.specs.Loaded.{damageOf, ByteFits, LoadsBoth}
+use Rattle.plan_load.proofs.Damage.{damage-is, fits}
+use Rattle.line_chains.specs.Chains.{Tabled}
+use Rattle.line_check.specs.Checks.{Facts}
+use Rattle.line_check.proofs.Standing.{lines-fit}
+use Rattle.call_verify.specs.Verify.{FaultIs}
+use Rattle.vaskunoor.proofs.Loading.{else-assoc, unread, unread-is, read-well, booked-here}
 
--- ---- the request: p is what was loaded of it
+-- what speaks against the lines of files that were read
+abbrev behind : List ℕ → List ℕ → List ℕ → Option Answer
+behind req asg tab =
+    clashFault (request req) (assignment (request req) asg) else linesFault (request req) (assignment (request req) asg) (table (request req .network) tab)
 
-module _ (req : List ℕ) (p : Plan) (l : Loads req p) where
-  pub request-damaged : (f : Fault) (b : ℕ) → p .ending ≡ Stopped f b → (asg tab : List ℕ) (r : Answer) → r ≡ Damaged requestFile f b → Contract (verify req asg tab) r []
-  unfolding checkTables _else_ orElse
-  request-damaged f b h asg tab r e = record { answer = e ∙ rw (request-stops req p l f b h) refl; area = refl }
+module _ (req asg p m : List ℕ) (x : Refusal) (g : LoadsBoth req asg p m x) (tab : List ℕ) where
+  verify-is : checkTables req asg tab ≡ orElse (unread req asg else tableFault (request req) tab else behind req asg tab) Done
+  unfolding checkTables
+  verify-is = ap (λ o. orElse o Done) (else-assoc (requestFault req) (assignmentFault (request req) asg) (tableFault (request req) tab else behind req asg tab))
 
-  module _ (w : p .ending ≡ Whole) where
-    abbrev held : Holds req p
-    held = l .holds w
+  pub verify-unread : (a : Answer) → x ≡ Told a → Contract (verify req asg tab) a []
+  unfolding _else_ orElse
+  verify-unread a h = record { answer = sym (verify-is ∙ rw (unread-is req asg p m x g a h) refl); area = refl }
 
-    pub numbers-here : Numbers req (p .circuits) (p .cycles) (p .demands)
-    numbers-here = numbers-of req p held
+  -- d is what was read of the table
+  module _ (n : x ≡ Nothing) (d : Lined) (e : d ≡ linedOf (request req .network) tab) where
+    pub table-fits : ByteFits (d .ending)
+    table-fits = fits (tableWalk (request req .network) tab) (ap (λ (y : Lined). y .ending) e) (table-byte-fits (request req .network) tab)
 
-    pub cycles-many : circuitsMost ≡ length (p .cycles)
-    cycles-many = sym (held .rows .sized .cycles-long)
+    -- z is what is told of it
+    module _ (z : Refusal) (h : found z ≡ damageOf tableFile (d .ending)) where
+      table-told : tableFault (request req) tab ≡ found z
+      table-told = sym (h ∙ damage-is tableFile (tableWalk (request req .network) tab) (ap (λ (y : Lined). y .ending) e))
 
-    pub counts-many : circuitsMost ≡ length (p .counts)
-    counts-many = sym (held .rows .sized .counts-long)
+      verify-read : checkTables req asg tab ≡ orElse (found z else behind req asg tab) Done
+      unfolding _else_
+      verify-read = verify-is ∙ rw (read-well req asg p m x g n, table-told) refl
 
-    pub whats-many : circuitsMost * usesMost ≡ length (p .whats)
-    whats-many = sym (held .rows .sized .whats-long)
+      pub verify-damaged : (a : Answer) → z ≡ Told a → Contract (verify req asg tab) a []
+      unfolding _else_ orElse
+      verify-damaged a k = record { answer = sym (verify-read ∙ rw k refl); area = refl }
 
-    pub afters-many : circuitsMost * usesMost ≡ length (p .afters)
-    afters-many = sym (held .rows .sized .afters-long)
+      module _ (w : z ≡ Nothing) where
+        facts : Facts (request req) (assignment (request req) asg) p m tab (d .lines)
+        facts = record { booked = booked-here req asg p m x g n; whole = table-told ∙ ap found w; lined = lines-are (request req .network) tab d e }
 
-    -- ---- the assignment: o is what was loaded of it
+        pub tabled-here : Tabled tab (d .lines)
+        tabled-here = lines-fit _ _ _ _ _ _ facts
 
-    module _ (asg : List ℕ) (o : Offsets) (lo : LoadsOffsets (request req) (p .circuits) asg o) where
-      pub assignment-damaged : (f : Fault) (b : ℕ) → o .ending ≡ Stopped f b → (tab : List ℕ) (r : Answer) → r ≡ Damaged assignmentFile f b → Contract (verify req asg tab) r []
-      unfolding checkTables _else_ orElse
-      assignment-damaged f b h tab r e = record { answer = e ∙ rw (held .fine, assignment-stops (request req) (p .circuits) asg o lo f b h) refl; area = refl }
-
-      module _ (wo : o .ending ≡ Whole) where
-        assigned-fine : assignmentFault (request req) asg ≡ none
-        assigned-fine = ends-whole assignmentFile (assignmentWalk (request req) asg) (sym (lo .ending) ∙ wo)
-
-        -- ---- the table: d is what was read of it
-
-        module _ (tab : List ℕ) (d : Lined) (e : d ≡ linedOf (request req .network) tab) where
-          module _ (f : Fault) (b : ℕ) (h : d .ending ≡ Stopped f b) where
-            table-stops : tableWalk (request req .network) tab ≡ stopped f b
-            table-stops = stopped-is (request req .network) tab d e f b h
-
-            pub table-byte : b < detailEnd
-            table-byte = table-byte-fits (request req .network) tab f b table-stops
-
-            pub table-damaged : (r : Answer) → r ≡ Damaged tableFile f b → Contract (verify req asg tab) r []
-            unfolding checkTables _else_ orElse
-            table-damaged r x = record { answer = x ∙ rw (held .fine, assigned-fine, table-stops) refl; area = refl }
-
-          pub all-read : d .ending ≡ Whole
-              → AllRead req asg tab (p .circuits) (p .cycles) (p .counts) (p .whats) (p .afters) (o .masks) (d .lines)
-          all-read wd = record {
-            request-fine = held .fine;
-            assignment-fine = assigned-fine;
-            facts = record {
-              planned = record { stands = stands-of req p held; masked = lo .masks wo };
-              whole = whole-is (request req .network) tab d e wd;
-              lined = lines-are (request req .network) tab d e;
-            };
-          }
+        pub verify-told : (y : Refusal) → FaultIs p m tab (d .lines) y → (a : Answer) → a ≡ orElse (found y) Done → Contract (verify req asg tab) a []
+        unfolding _else_
+        verify-told y is a s = record { answer = s ∙ sym (verify-read ∙ rw (w, ← is _ _ facts) refl); area = refl }

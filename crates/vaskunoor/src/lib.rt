@@ -2,25 +2,22 @@
 // one answer and one list of output bytes for every input. Assumes nothing.
 ghost use mathlib.Core.List.{[]};
 ghost use Rattle.model.specs.Jobs.{Contract, read, allot, check, make, verify};
-use call_checks::Refusal;
-use file_records::Ending;
-use model::ASSIGNMENT_FILE;
 use model::Answer;
 use model::CIRCUITS_MOST;
 use model::REQUEST_FILE;
 use model::TABLE_FILE;
+use plan::PLAN_SIZE;
+use plan_refusal::Refusal;
 use slot_search::Allotted;
 
 // Reads a request.
 pub fn read_request(request: &[u8]) -> Answer
     ensures { λ r. ⌜ Contract (read (now (request .entry))) r [] ⌝ }
 {
-    let plan = file_request::read(request);
-    let ending = plan.ending;
-    match ending {
-        Ending::Whole => Answer::Done,
-        Ending::Stopped(fault, byte) => plan_load::fault_answer(REQUEST_FILE, fault, byte),
-    }
+    let places = file_request::read(request);
+    let ending = places.ending;
+    let refusal = plan_load::damaged(REQUEST_FILE, ending);
+    plan_refusal::answer(refusal)
 }
 
 // Gives slots to the circuits of a request and writes them as its assignment, with at most `budget`
@@ -28,22 +25,21 @@ pub fn read_request(request: &[u8]) -> Answer
 pub fn allocate(request: &[u8], budget: u32, assignment: &mut [u8]) -> Answer
     ensures { λ r. ⌜ Contract (allot (now (request .entry)) budget (now (assignment .entry))) r (now (assignment .exit)) ⌝ }
 {
-    let plan = plan_load::load(request);
-    let ending = plan.ending;
-    if let Ending::Stopped(fault, byte) = ending {
-        return plan_load::fault_answer(REQUEST_FILE, fault, byte);
+    let mut plan = [0u16; PLAN_SIZE];
+    let refusal = plan_load::load(request, &mut plan);
+    if let Refusal::Told(answer) = refusal {
+        return answer;
     }
-    let needed = slot_allot::assignment_size(request, plan);
+    let needed = slot_allot::assignment_size(&plan);
     if assignment.len() < needed {
         return Answer::Short {
             bytes: needed as u32,
         };
     }
-    let n = plan.circuits;
     let mut masks = [0u32; CIRCUITS_MOST];
-    match slot_allot::search_slots(request, plan, budget, &mut masks) {
+    match slot_allot::search_slots(&plan, budget, &mut masks) {
         Allotted::Done(visits) => {
-            let bytes = file_writer::write_assignment(n, &masks, assignment);
+            let bytes = slot_writer::write_assignment(&plan, &masks, assignment);
             Answer::Allocated {
                 visits,
                 bytes: bytes as u32,
@@ -58,76 +54,59 @@ pub fn allocate(request: &[u8], budget: u32, assignment: &mut [u8]) -> Answer
 pub fn check_assignment(request: &[u8], assignment: &[u8]) -> Answer
     ensures { λ r. ⌜ Contract (check (now (request .entry)) (now (assignment .entry))) r [] ⌝ }
 {
-    let checked = call_checks::check_both(request, assignment);
-    let refusal = checked.refusal;
-    match refusal {
-        Refusal::Nothing => Answer::Done,
-        Refusal::Told(answer) => answer,
+    let mut plan = [0u16; PLAN_SIZE];
+    let mut masks = [0u32; CIRCUITS_MOST];
+    let refusal = plan_load::load_both(request, assignment, &mut plan, &mut masks);
+    if let Refusal::Told(answer) = refusal {
+        return answer;
     }
+    let clash = clash_first::first_clash(&plan, &masks);
+    plan_refusal::answer(clash)
 }
 
 // Makes the table of an assignment, and writes it to the front of the area.
 pub fn make_tables(request: &[u8], assignment: &[u8], table: &mut [u8]) -> Answer
     ensures { λ r. ⌜ Contract (make (now (request .entry)) (now (assignment .entry)) (now (table .entry))) r (now (table .exit)) ⌝ }
 {
-    let checked = call_checks::check_both(request, assignment);
-    let refusal = checked.refusal;
+    let mut plan = [0u16; PLAN_SIZE];
+    let mut masks = [0u32; CIRCUITS_MOST];
+    let refusal = plan_load::load_both(request, assignment, &mut plan, &mut masks);
     if let Refusal::Told(answer) = refusal {
         return answer;
     }
-    let n = checked.circuits;
-    let cycles = checked.cycles;
-    let counts = checked.counts;
-    let whats = checked.whats;
-    let afters = checked.afters;
-    let masks = checked.masks;
-    let needed = line_maker::table_size(n, &counts, &masks);
+    let clash = clash_first::first_clash(&plan, &masks);
+    if let Refusal::Told(answer) = clash {
+        return answer;
+    }
+    let needed = line_maker::table_size(&plan, &masks);
     if table.len() < needed {
         return Answer::Short {
             bytes: needed as u32,
         };
     }
-    let put = line_maker::write_table(request, n, &cycles, &counts, &whats, &afters, &masks, table);
-    Answer::Made { bytes: put as u32 }
+    let bytes = line_maker::write_table(&plan, &masks, table);
+    Answer::Made {
+        bytes: bytes as u32,
+    }
 }
 
 // Checks a table against the request and the assignment that it is for.
 pub fn check_tables(request: &[u8], assignment: &[u8], table: &[u8]) -> Answer
     ensures { λ r. ⌜ Contract (verify (now (request .entry)) (now (assignment .entry)) (now (table .entry))) r [] ⌝ }
 {
-    let plan = plan_load::load(request);
-    let first = plan.ending;
-    if let Ending::Stopped(fault, byte) = first {
-        return plan_load::fault_answer(REQUEST_FILE, fault, byte);
-    }
-    let n = plan.circuits;
-    let cycles = plan.cycles;
-    let demands = plan.demands;
-    let booked = plan_load::load_offsets(request, n, &cycles, &demands, assignment);
-    let second = booked.ending;
-    if let Ending::Stopped(fault, byte) = second {
-        return plan_load::fault_answer(ASSIGNMENT_FILE, fault, byte);
+    let mut plan = [0u16; PLAN_SIZE];
+    let mut masks = [0u32; CIRCUITS_MOST];
+    let refusal = plan_load::load_both(request, assignment, &mut plan, &mut masks);
+    if let Refusal::Told(answer) = refusal {
+        return answer;
     }
     let lined = file_table::read(request, table);
-    let third = lined.ending;
-    if let Ending::Stopped(fault, byte) = third {
-        return plan_load::fault_answer(TABLE_FILE, fault, byte);
-    }
-    let counts = plan.counts;
-    let whats = plan.whats;
-    let afters = plan.afters;
-    let masks = booked.masks;
+    let ending = lined.ending;
     let lines = lined.lines;
-    call_checks::behind_files(
-        request,
-        assignment,
-        table,
-        n,
-        &cycles,
-        &counts,
-        &whats,
-        &afters,
-        &masks,
-        lines,
-    )
+    let damage = plan_load::damaged(TABLE_FILE, ending);
+    if let Refusal::Told(answer) = damage {
+        return answer;
+    }
+    let fault = call_verify::verify(&plan, &masks, table, lines);
+    plan_refusal::answer(fault)
 }

@@ -1,7 +1,7 @@
 -- `clash_first::both_hold` meets its contract. Assumes nothing.
-use borrow.Author.Needs.{needs}
 use borrow.Author.Tests.{not-true, not-false}
 use Rattle.clash_first.proofs.Held.{both-not, both-last}
+use borrow.Author.Needs.{needs}
 use Rattle.clash_first.proofs.both_hold.Statement.{statement}
 use Rattle.clash_first.proofs.both_hold.Tie as tie
 
@@ -9,13 +9,13 @@ holds-requires : tie.Need-holds-requires
 holds-requires c κs = search needs
 
 returns : tie.Need-returns
-returns c = both-not (c .before .holds .ensures) (not-true _ (c .if1 .taken))
+returns c = both-not _ _ _ _ _ _ (c .before .holds .ensures) (not-true _ (c .if1 .taken))
 
 holds-requires-2 : tie.Need-holds-requires-2
 holds-requires-2 c κs = search needs
 
 returns-2 : tie.Need-returns-2
-returns-2 c = both-last (c .before .before .holds .ensures) (not-false _ (c .before .if1 .left)) (c .holds2 .ensures)
+returns-2 c = both-last _ _ _ _ _ _ (c .before .before .holds .ensures) (not-false _ (c .before .if1 .left)) (c .holds2 .ensures)
 
 pub both-hold-spec : {M : Type 1} → statement M
 both-hold-spec = tie.close (tie.spec holds-requires returns holds-requires-2 returns-2)

@@ -1,7 +1,7 @@
 -- `clash_first::clashes_by_sets` meets its contract. Assumes nothing.
 use mathlib.Core.Path.{sym}
-use borrow.Author.Needs.{needs}
 use Rattle.clash_first.proofs.Sets.{apart-never}
+use borrow.Author.Needs.{needs}
 use Rattle.clash_first.proofs.clashes_by_sets.Statement.{statement}
 use Rattle.clash_first.proofs.clashes_by_sets.Tie as tie
 
@@ -9,9 +9,7 @@ apart-requires : tie.Need-apart-requires
 apart-requires c κs = search needs
 
 returns : tie.Need-returns
-returns c =
-    let known = c .before .before .before .before .before .before .before .pre .1 in
-    sym (apart-never _ _ _ _ _ _ _ _ (known .0) (known .1 .0) (known .1 .1 .0) (known .1 .1 .1) (c .before .apart .ensures (c .if1 .taken)))
+returns c = let pre = c .before .before .pre in sym (apart-never _ _ _ _ (pre .0 .0) (pre .0 .1) (pre .1 .0) (pre .1 .1) (c .before .apart .ensures (c .if1 .taken)))
 
 pair-clashes-requires : tie.Need-pair-clashes-requires
 pair-clashes-requires c κs = search needs

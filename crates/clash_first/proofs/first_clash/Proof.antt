@@ -1,78 +1,60 @@
--- `clash_first::first_clash` meets its contract. The loops' invariants: no answer yet, and what was passed is clear where the masks are low. Assumes nothing.
+-- `clash_first::first_clash` meets its contract. The loops' invariants: nothing is found yet, and what was passed is clear. Assumes nothing.
 use Prim.Native.Nat.{_-_, _<_}
 use mathlib.Core.Path.{_≡_, refl, sym, _∙_}
-use native.Mathlib.Omega.{arith}
-use borrow.Author.Needs.{needs}
 use borrow.Author.Tests.{not-true}
 use Rattle.model.specs.Sizes.{resourcesMost}
-use Rattle.clash_pair.specs.Bookings.{bookedAt}
-use Rattle.clash_first.specs.declared.Clash.the-variants.{Nowhere}
-use Rattle.clash_first.proofs.First.{ClearWhats, ClearSlots, ClearHigher, ClearLower, Low, whats-none, whats-more, slots-none, slots-more, rows-skip, rows-all, higher-none, higher-more, lower-none, lower-more, nowhere, somewhere}
-use Rattle.clash_first.proofs.Sets.{listed}
+use Rattle.plan.specs.Plan.{bookingIn}
+use Rattle.plan_refusal.specs.declared.Refusal.the-variants.{Nothing}
+use Rattle.clash_first.proofs.First.{ClearWhats, ClearSlots, ClearHigher, ClearLower, whats-none, whats-more, slots-none, slots-more, plan-skip, plan-all, higher-none, higher-more, lower-none, lower-more, nowhere, somewhere}
+use borrow.Author.Needs.{needs}
+use native.Mathlib.Omega.{arith}
 use Rattle.clash_first.proofs.first_clash.Statement.{statement}
 use Rattle.clash_first.proofs.first_clash.Tie as tie
 
 abbrev Inv-loop3 : tie.InvT-loop3
-Inv-loop3 n cycles counts whats afters masks sets answer₀ i mi j mj slots t w₀ answer w = (answer ≡ Nowhere) × (Low n cycles masks → ClearWhats (bookedAt cycles counts whats afters masks i) (bookedAt cycles counts whats afters masks j) t w)
+Inv-loop3 p m n sets answer₀ i j slots t w₀ answer w = (answer ≡ Nothing) × ClearWhats (bookingIn p m i) (bookingIn p m j) t w
 
 abbrev μ-loop3 : tie.MeasureT-loop3
-μ-loop3 n cycles counts whats afters masks sets answer₀ i mi j mj slots t w₀ answer w = resourcesMost - w
+μ-loop3 p m n sets answer₀ i j slots t w₀ answer w = resourcesMost - w
 
 abbrev Inv-loop2 : tie.InvT-loop2
-Inv-loop2 n cycles counts whats afters masks sets answer₀ i mi j mj slots t₀ answer t = (answer ≡ Nowhere) × (Low n cycles masks → ClearSlots (bookedAt cycles counts whats afters masks i) (bookedAt cycles counts whats afters masks j) t)
+Inv-loop2 p m n sets answer₀ i j slots t₀ answer t = (answer ≡ Nothing) × ClearSlots (bookingIn p m i) (bookingIn p m j) t
 
 abbrev μ-loop2 : tie.MeasureT-loop2
-μ-loop2 n cycles counts whats afters masks sets answer₀ i mi j mj slots t₀ answer t = slots - t
+μ-loop2 p m n sets answer₀ i j slots t₀ answer t = slots - t
 
 abbrev Inv-loop : tie.InvT-loop
-Inv-loop n cycles counts whats afters masks sets answer₀ i mi j₀ answer j = (answer ≡ Nowhere) × (i < j) × (Low n cycles masks → ClearHigher (bookedAt cycles counts whats afters masks) i j)
+Inv-loop p m n sets answer₀ i j₀ answer j = (answer ≡ Nothing) × (i < j) × ClearHigher (bookingIn p m) i j
 
 abbrev μ-loop : tie.MeasureT-loop
-μ-loop n cycles counts whats afters masks sets answer₀ i mi j₀ answer j = n - j
+μ-loop p m n sets answer₀ i j₀ answer j = n - j
 
 abbrev Inv-found : tie.InvT-found
-Inv-found n cycles counts whats afters masks sets answer₀ i₀ answer i = (answer ≡ Nowhere) × (Low n cycles masks → ClearLower (bookedAt cycles counts whats afters masks) n i)
+Inv-found p m n sets answer₀ i₀ answer i = (answer ≡ Nothing) × ClearLower (bookingIn p m) n i
 
 abbrev μ-found : tie.MeasureT-found
-μ-found n cycles counts whats afters masks sets answer₀ i₀ answer i = n - i
+μ-found p m n sets answer₀ i₀ answer i = n - i
+
+circuits-requires : tie.Need-circuits-requires Inv-loop3 μ-loop3 Inv-loop2 μ-loop2 Inv-loop μ-loop Inv-found μ-found
+circuits-requires c κs = omega arith
 
 slice-aggregate-collect-all : tie.Need-slice-aggregate-collect-all Inv-loop3 μ-loop3 Inv-loop2 μ-loop2 Inv-loop μ-loop Inv-found μ-found
 slice-aggregate-collect-all c = refl
 
 collect-all-requires : tie.Need-collect-all-requires Inv-loop3 μ-loop3 Inv-loop2 μ-loop2 Inv-loop μ-loop Inv-found μ-found
-collect-all-requires c κs = let rows = c .before .before .before .before .before .before .pre .0 in (λ x h. listed (rows .long) (rows .known x h), omega arith)
+collect-all-requires c κs = search needs
 
 found-holds : tie.Need-found-holds Inv-loop3 μ-loop3 Inv-loop2 μ-loop2 Inv-loop μ-loop Inv-found μ-found
-found-holds c = (refl, λ l. lower-none)
-
-mul-mi : tie.Need-mul-mi Inv-loop3 μ-loop3 Inv-loop2 μ-loop2 Inv-loop μ-loop Inv-found μ-found
-mul-mi c = omega arith
-
-shared-slice-read-mi : tie.Need-shared-slice-read-mi Inv-loop3 μ-loop3 Inv-loop2 μ-loop2 Inv-loop μ-loop Inv-found μ-found
-shared-slice-read-mi c = omega arith
+found-holds c = (refl, lower-none)
 
 add-j : tie.Need-add-j Inv-loop3 μ-loop3 Inv-loop2 μ-loop2 Inv-loop μ-loop Inv-found μ-found
 add-j c = omega arith
 
 loop-holds : tie.Need-loop-holds Inv-loop3 μ-loop3 Inv-loop2 μ-loop2 Inv-loop μ-loop Inv-found μ-found
-loop-holds c = (c .before .before .found .inv .0, omega arith, λ l. higher-none refl)
-
-mul-mj : tie.Need-mul-mj Inv-loop3 μ-loop3 Inv-loop2 μ-loop2 Inv-loop μ-loop Inv-found μ-found
-mul-mj c = omega arith
-
-shared-slice-read-mj : tie.Need-shared-slice-read-mj Inv-loop3 μ-loop3 Inv-loop2 μ-loop2 Inv-loop μ-loop Inv-found μ-found
-shared-slice-read-mj c = omega arith
-
-slice-aggregate-clashes-by-sets : tie.Need-slice-aggregate-clashes-by-sets Inv-loop3 μ-loop3 Inv-loop2 μ-loop2 Inv-loop μ-loop Inv-found μ-found
-slice-aggregate-clashes-by-sets c = search needs
+loop-holds c = (c .before .found .inv .0, omega arith, higher-none refl)
 
 clashes-by-sets-requires : tie.Need-clashes-by-sets-requires Inv-loop3 μ-loop3 Inv-loop2 μ-loop2 Inv-loop μ-loop Inv-found μ-found
-clashes-by-sets-requires c κs =
-    let rows = c .before .before .before .before .before .before .before .before .before .before .before .before .before .before .before .pre .0 in
-    let lower = rows .known (c .before .before .before .before .before .before .found .i) (omega arith) in
-    let higher = rows .known (c .before .before .before .loop .j) (omega arith) in
-    let sets = c .before .before .before .before .before .before .before .before .collect-all .ensures in
-    (rows .long, (lower, (higher, (sets .at _ (omega arith), sets .at _ (omega arith)))))
+clashes-by-sets-requires c κs = let plan = c .before .before .before .before .before .before .before .before .before .pre .plan in let sets = c .before .before .before .before .before .before .collect-all .ensures in ((plan .fit _ (omega arith), plan .fit _ (omega arith)), (sets .at _ (omega arith), sets .at _ (omega arith)))
 
 add-j-2 : tie.Need-add-j-2 Inv-loop3 μ-loop3 Inv-loop2 μ-loop2 Inv-loop μ-loop Inv-found μ-found
 add-j-2 c = omega arith
@@ -81,32 +63,31 @@ loop-less : tie.Need-loop-less Inv-loop3 μ-loop3 Inv-loop2 μ-loop2 Inv-loop μ
 loop-less c = omega arith
 
 loop-again : tie.Need-loop-again Inv-loop3 μ-loop3 Inv-loop2 μ-loop2 Inv-loop μ-loop Inv-found μ-found
-loop-again c =
-    let rows = c .before .before .before .before .before .before .before .before .before .before .before .before .before .before .before .before .before .pre .0 in
-    let lower = rows .known (c .before .before .before .before .before .before .before .before .found .i) (omega arith) in
-    let higher = rows .known (c .before .before .before .before .before .loop .j) (omega arith) in
-    let clear = rows-skip _ _ _ _ _ _ _ _ lower higher (sym (c .before .clashes-by-sets .ensures) ∙ not-true _ (c .if1 .taken)) in
-    (c .before .before .before .before .before .loop .inv .0, omega arith, λ l. higher-more (c .before .before .before .before .before .loop .inv .2 l) clear)
+loop-again c = let plan = c .before .before .before .before .before .before .before .before .before .before .before .pre .plan in (c .before .before .before .before .loop .inv .0, omega arith, higher-more (c .before .before .before .before .loop .inv .2) (plan-skip _ _ _ _ (plan .fit _ (omega arith)) (plan .fit _ (omega arith)) (sym (c .before .clashes-by-sets .ensures) ∙ not-true _ (c .if1 .taken))))
 
 slots-of-requires : tie.Need-slots-of-requires Inv-loop3 μ-loop3 Inv-loop2 μ-loop2 Inv-loop μ-loop Inv-found μ-found
-slots-of-requires c κs =
-    let rows = c .before .before .before .before .before .before .before .before .before .before .before .before .before .before .before .before .before .pre .0 in
-    let lower = rows .known (c .before .before .before .before .before .before .before .before .found .i) (omega arith) in
-    let higher = rows .known (c .before .before .before .before .before .loop .j) (omega arith) in
-    ((omega arith, omega arith), (lower .cycle, higher .cycle))
+slots-of-requires c κs = let plan = c .before .before .before .before .before .before .before .before .before .before .before .pre .plan in (plan .fit _ (omega arith), plan .fit _ (omega arith))
 
 loop2-holds : tie.Need-loop2-holds Inv-loop3 μ-loop3 Inv-loop2 μ-loop2 Inv-loop μ-loop Inv-found μ-found
-loop2-holds c = (c .before .before .before .before .before .before .loop .inv .0, λ l. slots-none)
+loop2-holds c = (c .before .before .before .before .before .loop .inv .0, slots-none)
 
 loop3-holds : tie.Need-loop3-holds Inv-loop3 μ-loop3 Inv-loop2 μ-loop2 Inv-loop μ-loop Inv-found μ-found
-loop3-holds c = (c .before .loop2 .inv .0, λ l. whats-none)
+loop3-holds c = (c .before .loop2 .inv .0, whats-none)
 
 both-hold-requires : tie.Need-both-hold-requires Inv-loop3 μ-loop3 Inv-loop2 μ-loop2 Inv-loop μ-loop Inv-found μ-found
-both-hold-requires c κs =
-    let rows = c .before .before .before .before .before .before .before .before .before .before .before .before .before .before .before .before .before .before .before .before .before .before .pre .0 in
-    let lower = rows .known (c .before .before .before .before .before .before .before .before .before .before .before .before .before .found .i) (omega arith) in
-    let higher = rows .known (c .before .before .before .before .before .before .before .before .before .before .loop .j) (omega arith) in
-    (rows .long, (lower, higher))
+both-hold-requires c κs = let pre = c .before .before .before .before .before .before .before .before .before .before .before .before .before .before .before .before .pre in ((pre .plan .fit _ (omega arith), pre .low _ (omega arith)), (pre .plan .fit _ (omega arith), pre .low _ (omega arith)))
+
+cast-t21 : tie.Need-cast-t21 Inv-loop3 μ-loop3 Inv-loop2 μ-loop2 Inv-loop μ-loop Inv-found μ-found
+cast-t21 c = omega arith
+
+cast-t22 : tie.Need-cast-t22 Inv-loop3 μ-loop3 Inv-loop2 μ-loop2 Inv-loop μ-loop Inv-found μ-found
+cast-t22 c = omega arith
+
+cast-t23 : tie.Need-cast-t23 Inv-loop3 μ-loop3 Inv-loop2 μ-loop2 Inv-loop μ-loop Inv-found μ-found
+cast-t23 c = omega arith
+
+cast-t24 : tie.Need-cast-t24 Inv-loop3 μ-loop3 Inv-loop2 μ-loop2 Inv-loop μ-loop Inv-found μ-found
+cast-t24 c = omega arith
 
 add-w : tie.Need-add-w Inv-loop3 μ-loop3 Inv-loop2 μ-loop2 Inv-loop μ-loop Inv-found μ-found
 add-w c = omega arith
@@ -115,11 +96,7 @@ loop3-less : tie.Need-loop3-less Inv-loop3 μ-loop3 Inv-loop2 μ-loop2 Inv-loop 
 loop3-less c = omega arith
 
 loop3-again : tie.Need-loop3-again Inv-loop3 μ-loop3 Inv-loop2 μ-loop2 Inv-loop μ-loop Inv-found μ-found
-loop3-again c =
-    let i = c .before .before .before .before .before .before .before .before .before .before .before .before .before .before .before .found .i in
-    let j = c .before .before .before .before .before .before .before .before .before .before .before .before .loop .j in
-    let passed = c .before .before .before .loop3 .inv in
-    (passed .0, λ l. whats-more (passed .1 l) (sym (c .before .both-hold .ensures .is (l .at i (omega arith)) (l .at j (omega arith))) ∙ c .if2 .left))
+loop3-again c = (c .before .before .before .loop3 .inv .0, whats-more (c .before .before .before .loop3 .inv .1) (sym (c .before .both-hold .ensures) ∙ c .if2 .left))
 
 add-t : tie.Need-add-t Inv-loop3 μ-loop3 Inv-loop2 μ-loop2 Inv-loop μ-loop Inv-found μ-found
 add-t c = omega arith
@@ -128,7 +105,7 @@ loop2-less : tie.Need-loop2-less Inv-loop3 μ-loop3 Inv-loop2 μ-loop2 Inv-loop 
 loop2-less c = omega arith
 
 loop2-again : tie.Need-loop2-again Inv-loop3 μ-loop3 Inv-loop2 μ-loop2 Inv-loop μ-loop Inv-found μ-found
-loop2-again c = (c .before .loop3 .inv .0, λ l. slots-more (c .before .before .before .loop2 .inv .1 l) (c .before .loop3 .inv .1 l) (omega arith))
+loop2-again c = (c .before .loop3 .inv .0, slots-more (c .before .before .before .loop2 .inv .1) (c .before .loop3 .inv .1) (omega arith))
 
 add-j-3 : tie.Need-add-j-3 Inv-loop3 μ-loop3 Inv-loop2 μ-loop2 Inv-loop μ-loop Inv-found μ-found
 add-j-3 c = omega arith
@@ -137,9 +114,7 @@ loop-less-2 : tie.Need-loop-less-2 Inv-loop3 μ-loop3 Inv-loop2 μ-loop2 Inv-loo
 loop-less-2 c = omega arith
 
 loop-again-2 : tie.Need-loop-again-2 Inv-loop3 μ-loop3 Inv-loop2 μ-loop2 Inv-loop μ-loop Inv-found μ-found
-loop-again-2 c =
-    let clear = c .before .loop2 .inv in
-    (clear .0, omega arith, λ l. higher-more (c .before .before .before .before .before .before .before .before .loop .inv .2 l) (rows-all _ _ _ _ _ _ _ _ (clear .1 l) (c .before .before .slots-of .ensures) (omega arith)))
+loop-again-2 c = let plan = c .before .before .before .before .before .before .before .before .before .before .before .before .before .before .pre .plan in (c .before .loop2 .inv .0, omega arith, higher-more (c .before .before .before .before .before .before .before .loop .inv .2) (plan-all _ _ _ _ (plan .fit _ (omega arith)) (plan .fit _ (omega arith)) (c .before .loop2 .inv .1) (c .before .before .slots-of .ensures) (omega arith)))
 
 add-i : tie.Need-add-i Inv-loop3 μ-loop3 Inv-loop2 μ-loop2 Inv-loop μ-loop Inv-found μ-found
 add-i c = omega arith
@@ -148,18 +123,13 @@ found-less : tie.Need-found-less Inv-loop3 μ-loop3 Inv-loop2 μ-loop2 Inv-loop 
 found-less c = omega arith
 
 found-again : tie.Need-found-again Inv-loop3 μ-loop3 Inv-loop2 μ-loop2 Inv-loop μ-loop Inv-found μ-found
-found-again c = (c .before .loop .inv .0, λ l. lower-more (c .before .before .before .before .found .inv .1 l) (c .before .loop .inv .2 l) (omega arith))
+found-again c = (c .before .loop .inv .0, lower-more (c .before .before .before .found .inv .1) (c .before .loop .inv .2) (omega arith))
 
 returns : tie.Need-returns Inv-loop3 μ-loop3 Inv-loop2 μ-loop2 Inv-loop μ-loop Inv-found μ-found
-returns c = rw (c .before .found .inv .0) (λ q assigned p. sym (nowhere p (c .before .found .inv .1) (omega arith)))
+returns c = rw (c .before .found .inv .0) (λ q assigned b. nowhere b (c .before .found .inv .1) (omega arith) (c .before .before .before .before .before .circuits .ensures))
 
 returns-2 : tie.Need-returns-2 Inv-loop3 μ-loop3 Inv-loop2 μ-loop2 Inv-loop μ-loop Inv-found μ-found
-returns-2 c =
-    let lower = c .before .before .before .before .before .before .before .before .before .before .before .before .before .before .before .found .inv in
-    let higher = c .before .before .before .before .before .before .before .before .before .before .before .before .loop .inv in
-    let slots = c .before .before .before .before .before .loop2 .inv in
-    let whats = c .before .before .before .loop3 .inv in
-    λ q assigned p. sym (somewhere p (lower .1) (higher .2) (slots .1) (whats .1) (higher .1) (omega arith) (c .before .both-hold .ensures) (c .if2 .taken))
+returns-2 c = λ q assigned b. somewhere b (c .before .before .before .before .before .before .before .before .before .before .before .before .before .found .inv .1) (c .before .before .before .before .before .before .before .before .before .before .before .loop .inv .2) (c .before .before .before .before .before .loop2 .inv .1) (c .before .before .before .loop3 .inv .1) (c .before .before .before .before .before .before .before .before .before .before .before .before .before .before .before .before .before .circuits .ensures) (c .before .before .before .before .before .before .before .before .before .before .before .loop .inv .1) (omega arith) (c .before .both-hold .ensures) (c .if2 .taken)
 
 pub first-clash-spec : {M : Type 1} → statement M
 first-clash-spec =
@@ -173,16 +143,12 @@ first-clash-spec =
     μ-loop
     Inv-found
     μ-found
+    circuits-requires
     slice-aggregate-collect-all
     collect-all-requires
     found-holds
-    mul-mi
-    shared-slice-read-mi
     add-j
     loop-holds
-    mul-mj
-    shared-slice-read-mj
-    slice-aggregate-clashes-by-sets
     clashes-by-sets-requires
     add-j-2
     loop-less
@@ -191,6 +157,10 @@ first-clash-spec =
     loop2-holds
     loop3-holds
     both-hold-requires
+    cast-t21
+    cast-t22
+    cast-t23
+    cast-t24
     add-w
     loop3-less
     loop3-again

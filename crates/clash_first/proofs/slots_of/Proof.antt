@@ -1,23 +1,21 @@
 -- `clash_first::slots_of` meets its contract. Assumes nothing.
-use mathlib.Core.Path.{ap₂}
-use Prim.Native.Nat.{_*_}
-use native.Mathlib.Omega.{arith}
+use Rattle.clash_first.proofs.First.{slots-are}
 use borrow.Author.Needs.{needs}
-use Rattle.clash_first.proofs.First.{slots-few}
+use native.Mathlib.Omega.{arith}
 use Rattle.clash_first.proofs.slots_of.Statement.{statement}
 use Rattle.clash_first.proofs.slots_of.Tie as tie
 
-cycle-of-requires : tie.Need-cycle-of-requires
-cycle-of-requires c κs = search needs
+cycle-requires : tie.Need-cycle-requires
+cycle-requires c κs = search needs
 
-cycle-of-requires-2 : tie.Need-cycle-of-requires-2
-cycle-of-requires-2 c κs = search needs
+cycle-requires-2 : tie.Need-cycle-requires-2
+cycle-requires-2 c κs = search needs
 
 mul-result : tie.Need-mul-result
-mul-result c = omega (arith, slots-few (c .before .cycle-of .ensures .1) (c .cycle-of2 .ensures .1))
+mul-result c = omega (arith, slots-are (c .before .before .pre .0) (c .before .before .pre .1) (c .before .cycle .ensures) (c .cycle2 .ensures) .few)
 
 returns : tie.Need-returns
-returns c = ap₂ _*_ (c .before .cycle-of .ensures .0) (c .cycle-of2 .ensures .0)
+returns c = slots-are (c .before .before .pre .0) (c .before .before .pre .1) (c .before .cycle .ensures) (c .cycle2 .ensures)
 
 pub slots-of-spec : {M : Type 1} → statement M
-slots-of-spec = tie.close (tie.spec cycle-of-requires cycle-of-requires-2 mul-result returns)
+slots-of-spec = tie.close (tie.spec cycle-requires cycle-requires-2 mul-result returns)

@@ -1,67 +1,66 @@
 -- `clash_pair::mark_use` meets its contract. The loop's invariant: the differences of the uses passed are marked. Assumes nothing.
 use Prim.Native.Nat.{_-_, _≤_}
-use native.Mathlib.Omega.{arith}
+use Rattle.plan.specs.Plan.{useIn}
 use Rattle.clash_pair.specs.Differences.{MarksUse}
 use Rattle.clash_pair.proofs.Marking.{uses-none, uses-other, uses-same, uses-all}
+use borrow.Author.Needs.{needs}
+use native.Mathlib.Omega.{arith}
 use Rattle.clash_pair.proofs.mark_use.Statement.{statement}
 use Rattle.clash_pair.proofs.mark_use.Tie as tie
 
 abbrev Inv-loop : tie.InvT-loop
-Inv-loop whats afters first count g what after from acc₀ k₀ acc k = (k ≤ count) × MarksUse whats afters first k g what after from acc
+Inv-loop p c k e g from what after count acc₀ i₀ acc i = (i ≤ count) × MarksUse p (useIn p c k) e i g from acc
 
 abbrev μ-loop : tie.MeasureT-loop
-μ-loop whats afters first count g what after from acc₀ k₀ acc k = count - k
+μ-loop p c k e g from what after count acc₀ i₀ acc i = count - i
+
+what-requires : tie.Need-what-requires Inv-loop μ-loop
+what-requires c κs = search needs
+
+after-requires : tie.Need-after-requires Inv-loop μ-loop
+after-requires c κs = search needs
+
+uses-requires : tie.Need-uses-requires Inv-loop μ-loop
+uses-requires c κs = search needs
 
 loop-holds : tie.Need-loop-holds Inv-loop μ-loop
-loop-holds c = (omega arith, uses-none)
+loop-holds c = (omega arith, uses-none _ _ _ _ _ _)
 
-add-if1 : tie.Need-add-if1 Inv-loop μ-loop
-add-if1 c = omega arith
+what-requires-2 : tie.Need-what-requires-2 Inv-loop μ-loop
+what-requires-2 c κs = search needs
 
-mul-if1 : tie.Need-mul-if1 Inv-loop μ-loop
-mul-if1 c = omega arith
-
-shared-slice-read-if1 : tie.Need-shared-slice-read-if1 Inv-loop μ-loop
-shared-slice-read-if1 c = omega arith
-
-add-k : tie.Need-add-k Inv-loop μ-loop
-add-k c = omega arith
+add-i : tie.Need-add-i Inv-loop μ-loop
+add-i c = search needs
 
 loop-less : tie.Need-loop-less Inv-loop μ-loop
-loop-less c = omega arith
+loop-less c = search needs
 
 loop-again : tie.Need-loop-again Inv-loop μ-loop
-loop-again c = (omega arith, uses-other (c .before .before .before .loop .inv .1) (c .if1 .taken))
+loop-again c = (omega arith, uses-other _ _ _ _ _ _ (c .before .before .before .loop .inv .1) (c .before .before .before .before .before .before .what .ensures) (c .before .what2 .ensures) (c .if1 .taken))
 
-add-difference : tie.Need-add-difference Inv-loop μ-loop
-add-difference c = omega arith
-
-mul-difference : tie.Need-mul-difference Inv-loop μ-loop
-mul-difference c = omega arith
-
-shared-slice-read-difference : tie.Need-shared-slice-read-difference Inv-loop μ-loop
-shared-slice-read-difference c = omega arith
+after-requires-2 : tie.Need-after-requires-2 Inv-loop μ-loop
+after-requires-2 c κs = search needs
 
 difference-requires : tie.Need-difference-requires Inv-loop μ-loop
-difference-requires c κs = c .before .before .before .before .before .before .before .pre .1
+difference-requires c κs = search needs
 
 cast-mark : tie.Need-cast-mark Inv-loop μ-loop
-cast-mark c = omega arith
+cast-mark c = search needs
 
 mark-requires : tie.Need-mark-requires Inv-loop μ-loop
-mark-requires c κs = omega arith
+mark-requires c κs = search needs
 
-add-k-2 : tie.Need-add-k-2 Inv-loop μ-loop
-add-k-2 c = omega arith
+add-i-2 : tie.Need-add-i-2 Inv-loop μ-loop
+add-i-2 c = search needs
 
 loop-less-2 : tie.Need-loop-less-2 Inv-loop μ-loop
-loop-less-2 c = omega arith
+loop-less-2 c = search needs
 
 loop-again-2 : tie.Need-loop-again-2 Inv-loop μ-loop
-loop-again-2 c = (omega arith, uses-same (c .before .before .before .before .before .before .loop .inv .1) (c .before .before .before .if1 .left) (rw (c .before .difference .ensures .0) at (c .mark .ensures)))
+loop-again-2 c = (omega arith, uses-same _ _ _ _ _ _ (c .before .before .before .before .before .before .loop .inv .1) (c .before .before .before .before .before .before .before .before .before .what .ensures) (c .before .before .before .before .what2 .ensures) (c .before .before .before .before .before .before .before .before .after .ensures) (c .before .before .after2 .ensures) (c .before .difference .ensures .0) (c .before .before .before .if1 .left) (c .mark .ensures))
 
 returns : tie.Need-returns Inv-loop μ-loop
-returns c = uses-all (c .before .loop .inv .1) (omega arith)
+returns c = rw (← c .before .before .uses .ensures) (uses-all _ _ _ _ _ _ _ _ _ (c .before .loop .inv .1) (omega arith))
 
 pub mark-use-spec : {M : Type 1} → statement M
 mark-use-spec =
@@ -69,20 +68,19 @@ mark-use-spec =
     (tie.spec
     Inv-loop
     μ-loop
+    what-requires
+    after-requires
+    uses-requires
     loop-holds
-    add-if1
-    mul-if1
-    shared-slice-read-if1
-    add-k
+    what-requires-2
+    add-i
     loop-less
     loop-again
-    add-difference
-    mul-difference
-    shared-slice-read-difference
+    after-requires-2
     difference-requires
     cast-mark
     mark-requires
-    add-k-2
+    add-i-2
     loop-less-2
     loop-again-2
     returns)

@@ -1,6 +1,7 @@
 -- `clash_sets::put` meets its contract. Assumes nothing.
-use borrow.Author.Needs.{needs}
 use Rattle.clash_sets.proofs.Sets.{put-in}
+use borrow.Author.Needs.{needs}
+use native.Mathlib.Omega.{arith}
 use Rattle.clash_sets.proofs.put.Statement.{statement}
 use Rattle.clash_sets.proofs.put.Tie as tie
 
@@ -32,7 +33,7 @@ same-length : tie.Need-same-length
 same-length c = search needs
 
 returns : tie.Need-returns
-returns c = put-in _ (c .before .before .before .args .c) (c .before .before .before .args .w) (c .before .before .before .pre) (c .mark .ensures)
+returns c = put-in _ (c .before .before .before .args .c) (c .before .before .before .args .w) (omega arith) (c .mark .ensures)
 
 pub put-spec : {M : Type 1} → statement M
 put-spec =

@@ -3,9 +3,6 @@ use borrow.Author.Needs.{needs}
 use Rattle.file_records.proofs.Laws.{end-early, end-length, end-after, end-here}
 use Rattle.file_records.proofs.end_step.Statement.{statement}
 use Rattle.file_records.proofs.end_step.Tie as tie
-use Rattle.file_records.proofs.end_step.Reads as reads
-use Rattle.file_records.proofs.end_step.Lts as lts
-use Rattle.file_records.proofs.word.Reads as word-reads
 
 returns : tie.Need-returns
 returns c = search end-early

@@ -3,9 +3,6 @@ use borrow.Author.Needs.{needs}
 use Rattle.file_records.proofs.Laws.{past-fine, past-fault}
 use Rattle.file_records.proofs.past.Statement.{statement}
 use Rattle.file_records.proofs.past.Tie as tie
-use Rattle.file_records.proofs.past.Reads as reads
-use Rattle.file_records.proofs.past.Lts as lts
-use Rattle.file_records.proofs.word.Reads as word-reads
 
 enum-told : tie.Need-enum-told
 enum-told c = search needs

@@ -1,6 +1,6 @@
 -- `file_request::read` meets its contract. Assumes nothing.
-use borrow.Author.Needs.{needs}
 use Rattle.file_request.proofs.Walking.{first-inside, read-on, read-refused}
+use borrow.Author.Needs.{needs}
 use Rattle.file_request.proofs.read.Statement.{statement}
 use Rattle.file_request.proofs.read.Tie as tie
 

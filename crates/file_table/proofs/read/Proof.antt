@@ -1,20 +1,23 @@
--- `file_table::read` meets its contract: the loop makes the walk, one turn for each line. Assumes nothing.
+-- `file_table::read` meets its contract. The loop is the walk, turn by turn. Assumes nothing.
 use Prim.Native.Nat.{_-_}
-use borrow.Author.Needs.{needs}
+use native.Mathlib.Omega.{arith}
+use lib.ListN.{length}
 use Rattle.model.specs.Sizes.{linesMost}
-use Rattle.model.specs.Reading.{request}
-use Rattle.file_table.proofs.Walking.{Going, start-here, end-here, refused-here, on-here, count-here, less-here}
+use Rattle.model.specs.Reading.{request, tableStep}
+use Rattle.file_records.proofs.Walking.{Going, going-start, going-on, count-here, less-here}
+use Rattle.file_table.proofs.Walking.{bounded, end-here, refused-here}
+use borrow.Author.Needs.{needs}
 use Rattle.file_table.proofs.read.Statement.{statement}
 use Rattle.file_table.proofs.read.Tie as tie
 
 abbrev Inv-loop : tie.InvT-loop
-Inv-loop req s n₀ p₀ n p = Going (request req .network) s n p
+Inv-loop req s n₀ p₀ n p = Going linesMost (tableStep (request req .network) s) (length s) 0 n p
 
 abbrev μ-loop : tie.MeasureT-loop
 μ-loop req s n₀ p₀ n p = linesMost - n
 
 loop-holds : tie.Need-loop-holds Inv-loop μ-loop
-loop-holds c = search start-here
+loop-holds c = going-start _ _ _ 0 (bounded _ _) (omega arith)
 
 step-at-requires : tie.Need-step-at-requires Inv-loop μ-loop
 step-at-requires c κs = search needs
@@ -29,7 +32,7 @@ loop-less : tie.Need-loop-less Inv-loop μ-loop
 loop-less c = search less-here
 
 loop-again : tie.Need-loop-again Inv-loop μ-loop
-loop-again c = search on-here
+loop-again c = search going-on
 
 enum-told : tie.Need-enum-told Inv-loop μ-loop
 enum-told c = search needs

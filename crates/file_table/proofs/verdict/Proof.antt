@@ -1,11 +1,26 @@
 -- `file_table::verdict` meets its contract. Assumes nothing.
+use Rattle.file_table.proofs.Laws.{line-many, line-length, line-cut, line-rest}
 use borrow.Author.Needs.{needs}
-use Rattle.file_table.proofs.Laws.{verdict-here}
 use Rattle.file_table.proofs.verdict.Statement.{statement}
 use Rattle.file_table.proofs.verdict.Tie as tie
 
+returns : tie.Need-returns
+returns c = search line-many
+
 word-requires : tie.Need-word-requires
 word-requires c κs = search needs
+
+returns-2 : tie.Need-returns-2
+returns-2 c = search line-length
+
+sub-if3 : tie.Need-sub-if3
+sub-if3 c = search needs
+
+add-if3 : tie.Need-add-if3
+add-if3 c = search needs
+
+returns-3 : tie.Need-returns-3
+returns-3 c = search line-cut
 
 add-byte : tie.Need-add-byte
 add-byte c = search needs
@@ -43,20 +58,22 @@ add-word-2 c = search needs
 word-requires-3 : tie.Need-word-requires-3
 word-requires-3 c κs = search needs
 
-sub-line-rows : tie.Need-sub-line-rows
-sub-line-rows c = search needs
+line-numbers-requires : tie.Need-line-numbers-requires
+line-numbers-requires c κs = search needs
 
-line-rows-requires : tie.Need-line-rows-requires
-line-rows-requires c κs = search needs
-
-returns : tie.Need-returns
-returns c = search verdict-here
+returns-4 : tie.Need-returns-4
+returns-4 c = search line-rest
 
 pub verdict-spec : {M : Type 1} → statement M
 verdict-spec =
     tie.close
     (tie.spec
+    returns
     word-requires
+    returns-2
+    sub-if3
+    add-if3
+    returns-3
     add-byte
     byte-requires
     add-byte-2
@@ -69,6 +86,5 @@ verdict-spec =
     word-requires-2
     add-word-2
     word-requires-3
-    sub-line-rows
-    line-rows-requires
-    returns)
+    line-numbers-requires
+    returns-4)

@@ -1,17 +1,18 @@
--- `line_check::check_circuit` meets its contract: the offsets that were taken off the mask have no fault. Assumes nothing.
+-- `line_check::check_circuit` meets its contract. The loop's invariant: the offsets that were taken off the mask have no fault. Assumes nothing.
 use mathlib.Core.Path.{sym}
-use native.Mathlib.Omega.{arith}
-use borrow.Author.Needs.{needs}
 use Rattle.num_mask.proofs.Laws.{lowest-less}
+use Rattle.line_chains.specs.Chains.{linesIn}
 use Rattle.line_check.proofs.Firsts.{Left, left-all, left-more, left-found, left-none}
+use borrow.Author.Needs.{needs}
+use native.Mathlib.Omega.{arith}
 use Rattle.line_check.proofs.check_circuit.Statement.{statement}
 use Rattle.line_check.proofs.check_circuit.Tie as tie
 
 abbrev Inv-loop : tie.InvT-loop
-Inv-loop whats afters t lines head next cycle hops mask c left₀ left = Left whats afters t lines cycle hops mask c left
+Inv-loop p m t ch c left₀ left = Left p m t (linesIn ch) c left
 
 abbrev μ-loop : tie.MeasureT-loop
-μ-loop whats afters t lines head next cycle hops mask c left₀ left = left
+μ-loop p m t ch c left₀ left = left
 
 served-requires : tie.Need-served-requires Inv-loop μ-loop
 served-requires c κs = search needs
@@ -19,8 +20,14 @@ served-requires c κs = search needs
 returns : tie.Need-returns Inv-loop μ-loop
 returns c = sym (c .before .served .ensures (c .if1 .taken))
 
+mul-left : tie.Need-mul-left Inv-loop μ-loop
+mul-left c = search needs
+
+element-copy-out-left : tie.Need-element-copy-out-left Inv-loop μ-loop
+element-copy-out-left c = search needs
+
 loop-holds : tie.Need-loop-holds Inv-loop μ-loop
-loop-holds c = search left-all
+loop-holds c = left-all _ _ _ _ _
 
 lowest-requires : tie.Need-lowest-requires Inv-loop μ-loop
 lowest-requires c κs = search needs
@@ -29,10 +36,10 @@ long-requires : tie.Need-long-requires Inv-loop μ-loop
 long-requires c κs = search needs
 
 check-offset-requires : tie.Need-check-offset-requires Inv-loop μ-loop
-check-offset-requires c κs = let pre = c .before .before .before .before .before .before .before .before .before .before .before .pre in (pre .0, (pre .1, omega arith))
+check-offset-requires c κs = let pre = c .before .before .before .before .before .before .before .before .pre in (pre .0, (pre .1, omega arith))
 
-is-fine-requires : tie.Need-is-fine-requires Inv-loop μ-loop
-is-fine-requires c κs = search needs
+is-nothing-requires : tie.Need-is-nothing-requires Inv-loop μ-loop
+is-nothing-requires c κs = search needs
 
 returns-2 : tie.Need-returns-2 Inv-loop μ-loop
 returns-2 c = search left-found
@@ -57,11 +64,13 @@ check-circuit-spec =
     μ-loop
     served-requires
     returns
+    mul-left
+    element-copy-out-left
     loop-holds
     lowest-requires
     long-requires
     check-offset-requires
-    is-fine-requires
+    is-nothing-requires
     returns-2
     without-requires
     loop-less

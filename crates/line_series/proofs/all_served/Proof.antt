@@ -1,192 +1,42 @@
--- `line_series::all_served` meets its contract: of the offsets met so far just one line meets each, and none meets the others. Assumes nothing.
-use Prim.Native.Nat.{_-_}
-use mathlib.Core.Path.{sym, _∙_}
-use native.Mathlib.Omega.{arith}
+-- `line_series::all_served` meets its contract. Assumes nothing.
+use Rattle.line_series.proofs.Serving.{served-at}
 use borrow.Author.Needs.{needs}
-use borrow.Author.Tests.{eqb-true, not-false}
-use Rattle.model.proofs.Tests.{eq→T}
-use Rattle.line_series.specs.Judging.{Folds}
-use Rattle.line_series.proofs.Serving.{Serving, serving-none, serving-less, serving-other, serving-past, serving-on, serving-all, folds-nothing}
 use Rattle.line_series.proofs.all_served.Statement.{statement}
 use Rattle.line_series.proofs.all_served.Tie as tie
 
-abbrev Inv-loop : tie.InvT-loop
-Inv-loop t lines head next port cycle after out mask met₀ modulus₀ folded₀ m₀ met modulus folded m =
-    Serving t lines port cycle after out mask met m × Folds mask modulus folded
+port-requires : tie.Need-port-requires
+port-requires c κs = search needs
 
-abbrev μ-loop : tie.MeasureT-loop
-μ-loop t lines head next port cycle after out mask met₀ modulus₀ folded₀ m₀ met modulus folded m = lines - m
+cycle-requires : tie.Need-cycle-requires
+cycle-requires c κs = search needs
 
-mul-wide : tie.Need-mul-wide Inv-loop μ-loop
-mul-wide c = omega arith
+sent-requires : tie.Need-sent-requires
+sent-requires c κs = search needs
 
-shared-slice-read-wide : tie.Need-shared-slice-read-wide Inv-loop μ-loop
-shared-slice-read-wide c = omega arith
+out-requires : tie.Need-out-requires
+out-requires c κs = search needs
 
-wide-requires : tie.Need-wide-requires Inv-loop μ-loop
-wide-requires c κs = search needs
+mul-walk-served : tie.Need-mul-walk-served
+mul-walk-served c = search needs
 
-loop-holds : tie.Need-loop-holds Inv-loop μ-loop
-loop-holds c = (search serving-none, folds-nothing _ _)
+element-copy-out-walk-served : tie.Need-element-copy-out-walk-served
+element-copy-out-walk-served c = search needs
 
-mul-wide-2 : tie.Need-mul-wide-2 Inv-loop μ-loop
-mul-wide-2 c = omega arith
+walk-served-requires : tie.Need-walk-served-requires
+walk-served-requires c κs = let pre = c .before .before .before .before .before .before .pre in (pre .0, (rw (c .before .before .before .before .port .ensures) (pre .1 .0 .port-low _ (pre .1 .1)), rw (c .before .before .before .cycle .ensures) (pre .1 .0 .cycle)))
 
-shared-slice-read-wide-2 : tie.Need-shared-slice-read-wide-2 Inv-loop μ-loop
-shared-slice-read-wide-2 c = omega arith
-
-wide-requires-2 : tie.Need-wide-requires-2 Inv-loop μ-loop
-wide-requires-2 c κs = search needs
-
-period-of-requires : tie.Need-period-of-requires Inv-loop μ-loop
-period-of-requires c κs = omega arith
-
-slot-of-requires : tie.Need-slot-of-requires Inv-loop μ-loop
-slot-of-requires c κs = omega arith
-
-common-requires : tie.Need-common-requires Inv-loop μ-loop
-common-requires c κs =
-    let pre = c .before .before .before .before .before .before .before .before .before .before .before .before .pre in
-    (pre .1 .1, rw (c .before .before .period-of .ensures .is) (pre .0 .tabled .period _ (c .before .before .before .before .before .loop-test .taken)))
-
-refold-requires : tie.Need-refold-requires Inv-loop μ-loop
-refold-requires c κs = (c .before .before .before .before .before .before .before .loop .inv .1, record { low = c .common .ensures .low; high = c .common .ensures .high })
-
-difference-requires : tie.Need-difference-requires Inv-loop μ-loop
-difference-requires c κs = record { low = c .before .common .ensures .low; high = c .before .common .ensures .high }
-
-cast-r : tie.Need-cast-r Inv-loop μ-loop
-cast-r c = omega arith
-
-has-requires : tie.Need-has-requires Inv-loop μ-loop
-has-requires c κs = omega arith
-
-returns : tie.Need-returns Inv-loop μ-loop
-returns c = λ e. absurd (eq→T e)
-
-loop-less : tie.Need-loop-less Inv-loop μ-loop
-loop-less c = search serving-less
-
-loop-again : tie.Need-loop-again Inv-loop μ-loop
-loop-again c =
-    let pre = c .before .before .before .before .before .before .before .before .before .before .before .before .before .before .before .before .before .pre in
-    let folds = c .before .before .before .refold .ensures in (
-      serving-other _ _ _ _ _ _ _ _ _ (c .before .before .before .before .before .before .before .before .before .before .loop-test .taken) _ _ (pre .0) (c .before .before .before .before .before .before .before .before .before .before .before .loop .inv .0) _ (c .before .before .before .before .before .before .before .before .wide2 .ensures) (pre .1 .1) _ _ _ _
-          (c .before .before .before .before .before .before .before .period-of .ensures)
-          (c .before .before .before .before .before .before .slot-of .ensures)
-          _
-          _
-          _
-          _
-          (c .before .before .before .before .common .ensures)
-          folds
-          (c .before .before .difference .ensures .0)
-          (c .before .has .ensures)
-          (c .if2 .left),
-      folds,
-    )
-
-difference-requires-2 : tie.Need-difference-requires-2 Inv-loop μ-loop
-difference-requires-2 c κs = search needs
-
-cast-a : tie.Need-cast-a Inv-loop μ-loop
-cast-a c = omega arith
-
-has-requires-2 : tie.Need-has-requires-2 Inv-loop μ-loop
-has-requires-2 c κs = omega arith
-
-loop-less-2 : tie.Need-loop-less-2 Inv-loop μ-loop
-loop-less-2 c = search serving-less
-
-loop-again-2 : tie.Need-loop-again-2 Inv-loop μ-loop
-loop-again-2 c =
-    let pre = c .before .before .before .before .before .before .before .before .before .before .before .before .before .before .before .pre in (
-      serving-past _ _ _ _ _ _ _ _ _ (c .before .before .before .before .before .before .before .before .loop-test .taken) _ _ (pre .0) (c .before .before .before .before .before .before .before .before .before .loop .inv .0) _ (c .before .before .before .before .before .before .wide2 .ensures) (pre .1 .1) _ _ _ _
-          (c .before .before .before .before .before .period-of .ensures)
-          (c .before .before .before .before .slot-of .ensures)
-          (c .before .before .before .if1 .left)
-          _
-          (c .before .before .difference2 .ensures .0)
-          _
-          (c .before .has2 .ensures)
-          (c .if3 .taken),
-      c .before .before .before .before .before .before .before .before .before .loop .inv .1,
-    )
-
-has-requires-3 : tie.Need-has-requires-3 Inv-loop μ-loop
-has-requires-3 c κs = omega arith
-
-returns-2 : tie.Need-returns-2 Inv-loop μ-loop
-returns-2 c = λ e. absurd (eq→T e)
-
-out-of-requires : tie.Need-out-of-requires Inv-loop μ-loop
-out-of-requires c κs = omega arith
-
-returns-3 : tie.Need-returns-3 Inv-loop μ-loop
-returns-3 c = λ e. absurd (eq→T e)
-
-mark-requires : tie.Need-mark-requires Inv-loop μ-loop
-mark-requires c κs = omega arith
-
-loop-less-3 : tie.Need-loop-less-3 Inv-loop μ-loop
-loop-less-3 c = search serving-less
-
-loop-again-3 : tie.Need-loop-again-3 Inv-loop μ-loop
-loop-again-3 c =
-    let pre = c .before .before .before .before .before .before .before .before .before .before .before .before .before .before .before .before .before .before .before .before .pre in (
-      serving-on _ _ _ _ _ _ _ _ _ (c .before .before .before .before .before .before .before .before .before .before .before .before .before .loop-test .taken) _ _ (pre .0) (c .before .before .before .before .before .before .before .before .before .before .before .before .before .before .loop .inv .0) _ (c .before .before .before .before .before .before .before .before .before .before .before .wide2 .ensures) (pre .1 .1) _ _ _ _
-          (c .before .before .before .before .before .before .before .before .before .before .period-of .ensures)
-          (c .before .before .before .before .before .before .before .before .before .slot-of .ensures)
-          (c .before .before .before .before .before .before .before .before .if1 .left)
-          _
-          (c .before .before .before .before .before .before .before .difference2 .ensures .0)
-          _
-          _
-          _
-          (sym (c .before .before .before .before .before .before .has2 .ensures) ∙ not-false _ (c .before .before .before .before .before .if3 .left))
-          (sym (c .before .before .before .before .has3 .ensures) ∙ c .before .before .before .if4 .left)
-          (c .before .before .out-of .ensures)
-          (c .before .if5 .left)
-          (c .mark .ensures),
-      c .before .before .before .before .before .before .before .before .before .before .before .before .before .before .loop .inv .1,
-    )
-
-returns-4 : tie.Need-returns-4 Inv-loop μ-loop
-returns-4 c = λ e. search (serving-all, eqb-true, e)
+returns : tie.Need-returns
+returns c = λ e. served-at (c .before .before .before .before .before .port .ensures) (c .before .before .before .before .cycle .ensures) (c .before .before .before .sent .ensures) (c .before .before .out .ensures) (c .walk-served .ensures e)
 
 pub all-served-spec : {M : Type 1} → statement M
 all-served-spec =
     tie.close
     (tie.spec
-    Inv-loop
-    μ-loop
-    mul-wide
-    shared-slice-read-wide
-    wide-requires
-    loop-holds
-    mul-wide-2
-    shared-slice-read-wide-2
-    wide-requires-2
-    period-of-requires
-    slot-of-requires
-    common-requires
-    refold-requires
-    difference-requires
-    cast-r
-    has-requires
-    returns
-    loop-less
-    loop-again
-    difference-requires-2
-    cast-a
-    has-requires-2
-    loop-less-2
-    loop-again-2
-    has-requires-3
-    returns-2
-    out-of-requires
-    returns-3
-    mark-requires
-    loop-less-3
-    loop-again-3
-    returns-4)
+    port-requires
+    cycle-requires
+    sent-requires
+    out-requires
+    mul-walk-served
+    element-copy-out-walk-served
+    walk-served-requires
+    returns)

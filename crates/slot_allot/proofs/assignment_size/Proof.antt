@@ -1,47 +1,43 @@
--- `slot_allot::assignment_size` meets its contract: the sum over the circuits so far, which stays small. Assumes nothing.
-use Prim.Native.Nat.{_-_}
+-- `slot_allot::assignment_size` meets its contract. The loop's invariant: the sum over the circuits so far, which stays small. Assumes nothing.
+use Prim.Native.Nat.{_-_, _≤_}
+use Rattle.slot_allot.proofs.Counting.{Counted, counted-none, counted-more, counted-all}
+use borrow.Author.Needs.{needs}
 use native.Mathlib.Omega.{arith}
-use Rattle.slot_allot.proofs.Allotting.{Counted, counted-start, counted-more, counted-end, place-low, demand-fits, record-fits, total-fits}
 use Rattle.slot_allot.proofs.assignment_size.Statement.{statement}
 use Rattle.slot_allot.proofs.assignment_size.Tie as tie
-use Rattle.slot_allot.proofs.assignment_size.Reads as reads
-use Rattle.slot_allot.proofs.assignment_size.Lts as lts
 
 abbrev Inv-loop : tie.InvT-loop
-Inv-loop request n demands total₀ c₀ total c = Counted n demands total c
+Inv-loop p n total₀ c₀ total c = (c ≤ n) × Counted p total c
 
 abbrev μ-loop : tie.MeasureT-loop
-μ-loop request n demands total₀ c₀ total c = n - c
+μ-loop p n total₀ c₀ total c = n - c
+
+circuits-requires : tie.Need-circuits-requires Inv-loop μ-loop
+circuits-requires c κs = search needs
 
 loop-holds : tie.Need-loop-holds Inv-loop μ-loop
-loop-holds c = search counted-start
+loop-holds c = (omega arith, counted-none)
 
-mul-total : tie.Need-mul-total Inv-loop μ-loop
-mul-total c = omega arith
-
-array-read-total : tie.Need-array-read-total Inv-loop μ-loop
-array-read-total c = search place-low
-
-cast-total : tie.Need-cast-total Inv-loop μ-loop
-cast-total c = search demand-fits
+demand-requires : tie.Need-demand-requires Inv-loop μ-loop
+demand-requires c κs = search needs
 
 add-total : tie.Need-add-total Inv-loop μ-loop
-add-total c = search record-fits
+add-total c = omega (arith, c .before .before .before .before .pre .fit (c .before .before .loop .c) (omega arith) .demand, c .before .before .before .before .pre .fit (c .before .before .loop .c) (omega arith) .cycle .high)
 
 add-total-2 : tie.Need-add-total-2 Inv-loop μ-loop
-add-total-2 c = search total-fits
+add-total-2 c = omega (arith, c .before .before .loop .inv .1 .small, c .before .before .before .before .pre .fit (c .before .before .loop .c) (omega arith) .demand, c .before .before .before .before .pre .fit (c .before .before .loop .c) (omega arith) .cycle .high)
 
 add-c : tie.Need-add-c Inv-loop μ-loop
-add-c c = omega arith
+add-c c = search needs
 
 loop-less : tie.Need-loop-less Inv-loop μ-loop
-loop-less c = omega arith
+loop-less c = search needs
 
 loop-again : tie.Need-loop-again Inv-loop μ-loop
-loop-again c = search counted-more
+loop-again c = (omega arith, counted-more (c .before .before .loop .inv .1) (c .before .before .before .before .pre) (omega arith) (c .demand .ensures))
 
 returns : tie.Need-returns Inv-loop μ-loop
-returns c = search counted-end
+returns c = counted-all (c .before .loop .inv .1) (omega arith)
 
 pub assignment-size-spec : {M : Type 1} → statement M
 assignment-size-spec =
@@ -49,10 +45,9 @@ assignment-size-spec =
     (tie.spec
     Inv-loop
     μ-loop
+    circuits-requires
     loop-holds
-    mul-total
-    array-read-total
-    cast-total
+    demand-requires
     add-total
     add-total-2
     add-c

@@ -7,10 +7,10 @@ use Rattle.slot_grid.proofs.fill_pair.Statement.{statement}
 use Rattle.slot_grid.proofs.fill_pair.Tie as tie
 
 abbrev Inv-loop : tie.InvT-loop
-Inv-loop bad g d e first table₀ b₀ table b = (b ≤ e) × PairFilled bad g d b first table₀ table
+Inv-loop bad g d e first grid₀ b₀ grid b = (b ≤ e) × PairFilled bad g d b first grid₀ grid
 
 abbrev μ-loop : tie.MeasureT-loop
-μ-loop bad g d e first table₀ b₀ table b = e - b
+μ-loop bad g d e first grid₀ b₀ grid b = e - b
 
 loop-holds : tie.Need-loop-holds Inv-loop μ-loop
 loop-holds c = (omega arith, pair-none)
@@ -18,14 +18,14 @@ loop-holds c = (omega arith, pair-none)
 barred-requires : tie.Need-barred-requires Inv-loop μ-loop
 barred-requires c κs = (c .before .before .before .pre .0, c .before .before .before .pre .1 .0)
 
-add-table : tie.Need-add-table Inv-loop μ-loop
-add-table c = omega arith
+add-grid : tie.Need-add-grid Inv-loop μ-loop
+add-grid c = omega arith
 
-mul-table : tie.Need-mul-table Inv-loop μ-loop
-mul-table c = omega arith
+mul-grid : tie.Need-mul-grid Inv-loop μ-loop
+mul-grid c = omega arith
 
-slice-write-table : tie.Need-slice-write-table Inv-loop μ-loop
-slice-write-table c = omega (arith, c .before .before .loop .inv .1 .long)
+slice-write-grid : tie.Need-slice-write-grid Inv-loop μ-loop
+slice-write-grid c = omega (arith, c .before .before .loop .inv .1 .long)
 
 add-b : tie.Need-add-b Inv-loop μ-loop
 add-b c = omega arith
@@ -50,9 +50,9 @@ fill-pair-spec =
     μ-loop
     loop-holds
     barred-requires
-    add-table
-    mul-table
-    slice-write-table
+    add-grid
+    mul-grid
+    slice-write-grid
     add-b
     loop-less
     loop-again

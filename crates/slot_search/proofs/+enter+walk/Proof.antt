@@ -6,7 +6,7 @@ use mathlib.Core.List.{map}
 use native.Mathlib.Omega.{arith}
 use native.Mathlib.Nat.{zero-lt-suc, lt-of-lt-of-le}
 use Prim.Native.Nat.{ℕ, _+_, _-_, _*_, _<_}
-use lib.ListN.{length, take, getD, length-set}
+use lib.ListN.{take, length-set}
 use lib.Count.{ones, ones-le}
 use borrow.Author.Needs.{needs}
 use borrow.Fn.Kinds.{In}
@@ -14,10 +14,15 @@ use borrow.Fn.PlainCycle.{Measures, is, falls, and}
 use Rattle.model.specs.Sizes.{cycleMost}
 use Rattle.num_mask.specs.Bits.{offsets}
 use Rattle.num_mask.proofs.Laws.{offsets-more}
+use Rattle.plan.specs.Plan.{circuitsIn, cycleIn, demandIn, Fit}
+use Rattle.plan.proofs.circuits.Reads as circuits-reads
+use Rattle.plan.proofs.cycle.Reads as cycle-reads
+use Rattle.plan.proofs.demand.Reads as demand-reads
+use Rattle.slot_search.specs.Code.{SkippedTo}
 use Rattle.slot_search.proofs.WalkLaws.{circuit-end, circuit-enter}
 use Rattle.slot_search.proofs.EndsLaws.{ends-same, ends-found}
 use Rattle.slot_search.proofs.CellLaws.{earlier-length, ready-as, cell-falls, next-le}
-use Rattle.slot_search.proofs.LoopLaws.{Turn, Nothing, above, turn-start, turn-again, turn-on, still-wanted, tried, not-free, nothing-long}
+use Rattle.slot_search.proofs.LoopLaws.{Turn, Nothing, word, above, turn-start, turn-again, turn-on, still-wanted, tried, not-free, nothing-long}
 use Rattle.slot_search.proofs.LoopLaws.{out-found, out-over, out-spent, out-short, out-shut, out-broke, out-end}
 use Rattle.slot_search.proofs.enter.Reads as enter
 use Rattle.slot_search.proofs.enter.Kinds as enter-kinds
@@ -30,72 +35,69 @@ use Rattle.slot_search.proofs.next_cell.Reads as next-cell-reads
 use Rattle.slot_search.proofs.+enter+walk.{statement}
 use Rattle.slot_search.proofs.+enter+walk.Tie.{close}
 
-abbrev μ-enter : Measures 4 enter-kinds.ps ℕ
-μ-enter κs a = (length (a .1 .0 .now) - a .1 .1 .1 .1 .0) * 64 + 63
+abbrev μ-enter : Measures 3 enter-kinds.ps ℕ
+μ-enter κs a = (circuitsIn (a .1 .0 .now) - a .1 .1 .1 .0) * 64 + 63
 
-abbrev μ-walk : Measures 4 walk-kinds.ps ℕ
-μ-walk κs a = (length (a .1 .0 .now) - a .1 .1 .1 .1 .0) * 64 + (cycleMost - a .1 .1 .1 .1 .1 .0)
+abbrev μ-walk : Measures 3 walk-kinds.ps ℕ
+μ-walk κs a = (circuitsIn (a .1 .0 .now) - a .1 .1 .1 .0 .circuit) * 64 + (cycleMost - a .1 .1 .1 .0 .from)
 
-abbrev enter-at : ℕ → In 4 enter-kinds.ps
-enter-at t = and 4 enter-kinds.ps (is 4 enter-kinds.ps μ-enter t) enter.Pre
+abbrev enter-at : ℕ → In 3 enter-kinds.ps
+enter-at t = and 3 enter-kinds.ps (is 3 enter-kinds.ps μ-enter t) enter.Pre
 
-abbrev enter-below : ℕ → In 4 enter-kinds.ps
-enter-below t = and 4 enter-kinds.ps (falls 4 enter-kinds.ps _<_ μ-enter t) enter.Pre
+abbrev enter-below : ℕ → In 3 enter-kinds.ps
+enter-below t = and 3 enter-kinds.ps (falls 3 enter-kinds.ps _<_ μ-enter t) enter.Pre
 
-abbrev walk-at : ℕ → In 4 walk-kinds.ps
-walk-at t = and 4 walk-kinds.ps (is 4 walk-kinds.ps μ-walk t) walk.Pre
+abbrev walk-at : ℕ → In 3 walk-kinds.ps
+walk-at t = and 3 walk-kinds.ps (is 3 walk-kinds.ps μ-walk t) walk.Pre
 
-abbrev walk-below : ℕ → In 4 walk-kinds.ps
-walk-below t = and 4 walk-kinds.ps (falls 4 walk-kinds.ps _<_ μ-walk t) walk.Pre
+abbrev walk-below : ℕ → In 3 walk-kinds.ps
+walk-below t = and 3 walk-kinds.ps (falls 3 walk-kinds.ps _<_ μ-walk t) walk.Pre
 
 -- ---- enter
 
 -- what is known of the functions that it calls
 abbrev enter-calls : ℕ → enter-lts.Claims
-enter-calls t = (blocked-reads.Asked, blocked-reads.Learnt, walk-below t, walk.Post)
+enter-calls t = (circuits-reads.Asked, circuits-reads.Learnt, blocked-reads.Asked, blocked-reads.Learnt, walk-below t, walk.Post)
 
 module _ (t : ℕ) where
+  enter-circuits-requires : enter-lts.Need-circuits-requires (enter-calls t) (enter-at t) enter.Post
+  enter-circuits-requires c κs = search needs
+
   enter-returns : enter-lts.Need-returns (enter-calls t) (enter-at t) enter.Post
   enter-returns c =
-      let s = c .before .before .before .before .before in
-      let x = s .args in
-      let end = circuit-end (x .table .now) (x .cycles .now) (x .demands .now) (x .c) (map offsets (take (x .c) (x .taken .now))) (c .if1 .taken) in
-      ends-same (sym end) (ends-found (x .left) (c .if1 .taken))
+      let x = c .before .before .before .args in
+      let last = c .if1 .taken ∙ c .before .circuits .ensures in
+      ends-same (sym (circuit-end (x .grid .now) (x .p .now) (x .c) (map offsets (take (x .c) (x .taken .now))) last)) (ends-found (x .left) last)
 
   enter-blocked-requires : enter-lts.Need-blocked-requires (enter-calls t) (enter-at t) enter.Post
-  enter-blocked-requires c κs =
-      let ready = c .before .before .before .before .before .before .pre .1 .0 in
-      record { long = ready .long; few = omega arith; room = omega arith }
+  enter-blocked-requires c κs = (omega arith, omega arith)
 
   enter-walk-requires : enter-lts.Need-walk-requires (enter-calls t) (enter-at t) enter.Post
-  enter-walk-requires c κs =
-      let ready = c .before .before .before .before .before .before .before .before .pre .1 .0 in
-      (omega arith, (ready, record { circuit = omega arith; within = omega arith; low = zero-lt-suc 0 }))
+  enter-walk-requires c κs = (omega arith, (c .before .before .before .before .before .before .pre .1 .0, record { circuit = omega arith; within = omega arith; low = zero-lt-suc 0 }))
 
   enter-same-length : enter-lts.Need-same-length (enter-calls t) (enter-at t) enter.Post
-  enter-same-length c = c .before .before .walk .kept .1 .1 .1 .0
+  enter-same-length c = c .before .before .walk .kept .1 .1 .0
 
   enter-returns-2 : enter-lts.Need-returns-2 (enter-calls t) (enter-at t) enter.Post
   enter-returns-2 c =
-      let x = c .before .before .before .before .before .before .before .before .before .before .before .args in
+      let x = c .before .before .before .before .before .before .before .before .before .args in
       let k = c .before .before .before .before .blocked in
       ends-same
       (sym
-      (circuit-enter (x .table .now) (x .cycles .now) (x .demands .now) (x .c) (map offsets (take (x .c) (x .taken .now)))
+      (circuit-enter (x .grid .now) (x .p .now) (x .c) (map offsets (take (x .c) (x .taken .now)))
       (k .result) (omega arith) (earlier-length (x .taken .now) (x .c) (omega arith)) (k .ensures)))
       (c .before .before .walk .ensures)
 
 -- ---- walk
 
 abbrev walk-calls : ℕ → walk-lts.Claims
-walk-calls t = (next-cell-reads.Asked, next-cell-reads.Learnt, walk-below t, walk.Post, enter-below t, enter.Post)
+walk-calls t = (cycle-reads.Asked, cycle-reads.Learnt, demand-reads.Asked, demand-reads.Learnt, next-cell-reads.Asked, next-cell-reads.Learnt, walk-below t, walk.Post, enter-below t, enter.Post)
 
 abbrev walk-Inv-loop : walk-lts.InvT-loop
-walk-Inv-loop table cycles demands taken₀ c from mask shut budget cycle demand have a₀ left₀ taken a left =
-    Turn table cycles demands c from mask shut budget taken₀ taken a left
+walk-Inv-loop grid p taken₀ budget c mask shut cycle demand have a₀ left₀ taken a left = Turn grid p c a₀ mask shut left₀ taken₀ taken a left
 
 abbrev walk-μ-loop : walk-lts.MeasureT-loop
-walk-μ-loop table cycles demands taken₀ c from mask shut budget cycle demand have a₀ left₀ taken a left = getD cycles c 0 - a
+walk-μ-loop grid p taken₀ budget c mask shut cycle demand have a₀ left₀ taken a left = cycleIn p c - a
 
 module _ (t : ℕ) where
   abbrev Passed : Type 0
@@ -104,20 +106,29 @@ module _ (t : ℕ) where
   abbrev AtCell : Type 0
   AtCell = walk-lts.Else2 (walk-calls t) (walk-at t) walk.Post walk-Inv-loop walk-μ-loop
 
-  -- the turn goes on at the next cell that is not only skipped
+  fit-here : (c : walk-lts.Start (walk-calls t) (walk-at t) walk.Post walk-Inv-loop walk-μ-loop) → Fit (c .args .p .now) (c .args .at .circuit)
+  fit-here c = c .pre .1 .0 .plan .fit (c .args .at .circuit) (c .pre .1 .1 .circuit)
+
+  -- the cells up to the next one can only be skipped
+  skipped : (c : walk-lts.After-next-cell (walk-calls t) (walk-at t) walk.Post walk-Inv-loop walk-μ-loop)
+      → let x = c .before .before .before .before .before .before .args in
+      SkippedTo (x .at .shut) (c .before .before .loop .a) (cycleIn (x .p .now) (x .at .circuit)) (demandIn (x .p .now) (x .at .circuit)) (ones (x .at .mask)) (c .next-cell .result)
+  skipped c = rw (c .before .before .before .before .cycle .ensures, c .before .before .before .demand .ensures) at (c .next-cell .ensures)
+
+  -- and there the turn goes on
   passed : (c : Passed)
-      → let x = c .before .before .before .before .before .before .before .before .before .before .args in
+      → let x = c .before .before .before .before .before .before .before .args in
       let l = c .before .before .before .loop in
       let next = c .before .next-cell .result in
-      Turn (x .table .now) (x .cycles .now) (x .demands .now) (x .c) (x .from) (x .mask) (x .shut) (x .budget) (x .taken .now) (l .taken) next (l .left - (next - l .a))
-  passed c = turn-on (c .before .before .before .loop .inv) (c .before .next-cell .ensures) (c .if1 .left)
+      Turn (x .grid .now) (x .p .now) (x .at .circuit) (x .at .from) (x .at .mask) (x .at .shut) (x .budget) (x .taken .now) (l .taken) next (l .left - (next - l .a))
+  passed c = turn-on (c .before .before .before .loop .inv) (skipped (c .before)) (c .if1 .left)
 
   -- it is inside the cycle, and then an offset is wanted
-  inside : (c : AtCell) → let x = c .before .before .before .before .before .before .before .before .before .before .before .args in c .before .before .next-cell .result < getD (x .cycles .now) (x .c) 0
+  inside : (c : AtCell) → let x = c .before .before .before .before .before .before .before .before .args in c .before .before .next-cell .result < cycleIn (x .p .now) (x .at .circuit)
   inside c = let w = passed (c .before) .within in omega (arith, c .if2 .left)
 
-  wanted : (c : AtCell) → let x = c .before .before .before .before .before .before .before .before .before .before .before .args in ones (x .mask) < getD (x .demands .now) (x .c) 0
-  wanted c = still-wanted (c .before .before .next-cell .ensures) (c .if2 .left)
+  wanted : (c : AtCell) → let x = c .before .before .before .before .before .before .before .before .args in ones (x .at .mask) < demandIn (x .p .now) (x .at .circuit)
+  wanted c = omega (arith, still-wanted (c .before .before .next-cell .ensures) (c .if2 .left))
 
   -- where the ways through a cell meet, taking it came to nothing: it was tried, or was not free
   nothing : (c : walk-lts.Joined3 (walk-calls t) (walk-at t) walk.Post walk-Inv-loop walk-μ-loop)
@@ -127,34 +138,33 @@ module _ (t : ℕ) where
       ⊎-elim
       (λ w.
       let call = w .3 in
-      tried i (inside (c .before)) (wanted (c .before)) (w .0 .taken) (w .1 .left) (w .7 .given .1) (call .ensures) (call .kept .1 .1 .1 .0) (w .9) (w .10))
+      tried i (inside (c .before)) (wanted (c .before)) (w .0 .taken) (w .1 .left) (w .7 .given .1) (call .ensures) (call .kept .1 .1 .0) (w .9) (w .10))
       (λ w. not-free i (w .0 .left) (w .1) (w .2))
       (c .if3 .came)
 
-  walk-mul-cycle : walk-lts.Need-mul-cycle (walk-calls t) (walk-at t) walk.Post walk-Inv-loop walk-μ-loop
-  walk-mul-cycle c = omega arith
+  walk-cycle-requires : walk-lts.Need-cycle-requires (walk-calls t) (walk-at t) walk.Post walk-Inv-loop walk-μ-loop
+  walk-cycle-requires c κs = omega arith
 
-  walk-shared-slice-read-cycle : walk-lts.Need-shared-slice-read-cycle (walk-calls t) (walk-at t) walk.Post walk-Inv-loop walk-μ-loop
-  walk-shared-slice-read-cycle c = omega arith
+  walk-cast-cycle : walk-lts.Need-cast-cycle (walk-calls t) (walk-at t) walk.Post walk-Inv-loop walk-μ-loop
+  walk-cast-cycle c = omega (arith, fit-here (c .before .before) .cycle .high)
 
-  walk-mul-demand : walk-lts.Need-mul-demand (walk-calls t) (walk-at t) walk.Post walk-Inv-loop walk-μ-loop
-  walk-mul-demand c = omega arith
+  walk-demand-requires : walk-lts.Need-demand-requires (walk-calls t) (walk-at t) walk.Post walk-Inv-loop walk-μ-loop
+  walk-demand-requires c κs = omega arith
 
-  walk-shared-slice-read-demand : walk-lts.Need-shared-slice-read-demand (walk-calls t) (walk-at t) walk.Post walk-Inv-loop walk-μ-loop
-  walk-shared-slice-read-demand c = omega arith
+  walk-cast-demand : walk-lts.Need-cast-demand (walk-calls t) (walk-at t) walk.Post walk-Inv-loop walk-μ-loop
+  walk-cast-demand c = let f = fit-here (c .before .before .before) in omega arith
 
   walk-loop-holds : walk-lts.Need-loop-holds (walk-calls t) (walk-at t) walk.Post walk-Inv-loop walk-μ-loop
   walk-loop-holds c =
-      let s = c .before .before .before .before .before .before in
+      let s = c .before .before .before in
       let x = s .args in
-      turn-start (x .table .now) (x .cycles .now) (x .demands .now) (x .c) (x .from) (x .mask) (x .shut) (x .budget) (x .taken .now)
-      (s .pre .1 .1) (s .pre .1 .0 .short (x .c))
+      turn-start (x .grid .now) (x .p .now) (x .at .circuit) (x .at .from) (x .at .mask) (x .at .shut) (x .budget) (x .taken .now) (s .pre .1 .1) (fit-here s)
 
   walk-next-cell-requires : walk-lts.Need-next-cell-requires (walk-calls t) (walk-at t) walk.Post walk-Inv-loop walk-μ-loop
   walk-next-cell-requires c κs =
-      let s = c .before .before .before .before .before .before .before .before in
-      let x = s .args in
-      (c .loop-test .taken, (s .pre .1 .0 .short (x .c), s .pre .1 .0 .small (x .c), ones-le cycleMost (x .mask) (s .fits .mask .fits)))
+      let i = c .before .loop .inv in
+      let f = i .fit in
+      (omega arith, (omega arith, omega arith, ones-le cycleMost _ (word i)))
 
   walk-sub-if1 : walk-lts.Need-sub-if1 (walk-calls t) (walk-at t) walk.Post walk-Inv-loop walk-μ-loop
   walk-sub-if1 c = c .next-cell .ensures .started
@@ -163,7 +173,7 @@ module _ (t : ℕ) where
   walk-same-length c = c .before .before .before .loop .inv .sized
 
   walk-returns : walk-lts.Need-returns (walk-calls t) (walk-at t) walk.Post walk-Inv-loop walk-μ-loop
-  walk-returns c = out-short (c .before .before .before .loop .inv) (c .before .next-cell .ensures) (c .if1 .taken)
+  walk-returns c = out-short (c .before .before .before .loop .inv) (skipped (c .before)) (c .if1 .taken)
 
   walk-sub-left : walk-lts.Need-sub-left (walk-calls t) (walk-at t) walk.Post walk-Inv-loop walk-μ-loop
   walk-sub-left c = c .before .next-cell .ensures .started
@@ -178,7 +188,7 @@ module _ (t : ℕ) where
   walk-loop-again c = passed (c .before)
 
   walk-shr-if3 : walk-lts.Need-shr-if3 (walk-calls t) (walk-at t) walk.Post walk-Inv-loop walk-μ-loop
-  walk-shr-if3 c = let p = passed (c .before) .short in omega (arith, inside c)
+  walk-shr-if3 c = let p = passed (c .before) .fit in omega (arith, inside c)
 
   walk-same-length-2 : walk-lts.Need-same-length-2 (walk-calls t) (walk-at t) walk.Post walk-Inv-loop walk-μ-loop
   walk-same-length-2 c = passed (c .before .before .before) .sized
@@ -189,10 +199,10 @@ module _ (t : ℕ) where
       out-spent (passed (at .before)) (inside at) (wanted at) (c .before .if3 .taken) (c .if4 .taken)
 
   walk-shl-got : walk-lts.Need-shl-got (walk-calls t) (walk-at t) walk.Post walk-Inv-loop walk-μ-loop
-  walk-shl-got c = let p = passed (c .before .before .before) .short in omega (arith, inside (c .before .before))
+  walk-shl-got c = let p = passed (c .before .before .before) .fit in omega (arith, inside (c .before .before))
 
   walk-add-walk : walk-lts.Need-add-walk (walk-calls t) (walk-at t) walk.Post walk-Inv-loop walk-μ-loop
-  walk-add-walk c = let p = passed (c .before .before .before .before) .short in omega (arith, inside (c .before .before .before))
+  walk-add-walk c = let p = passed (c .before .before .before) .fit in omega (arith, inside (c .before .before))
 
   walk-sub-walk : walk-lts.Need-sub-walk (walk-calls t) (walk-at t) walk.Post walk-Inv-loop walk-μ-loop
   walk-sub-walk c = omega arith
@@ -200,10 +210,10 @@ module _ (t : ℕ) where
   walk-walk-requires : walk-lts.Need-walk-requires (walk-calls t) (walk-at t) walk.Post walk-Inv-loop walk-μ-loop
   walk-walk-requires c κs =
       let at = c .before .before .before in
-      let s = at .before .before .before .before .before .before .before .before .before .before .before in
+      let s = at .before .before .before .before .before .before .before .before in
       let i = passed (at .before) in
       let more = offsets-more (above i (inside at)) in (
-        cell-falls (length (s .args .cycles .now) - s .args .c) (s .pre .0) (i .started) (lt-of-lt-of-le (inside at) (i .short)),
+        cell-falls (circuitsIn (s .args .p .now) - s .args .at .circuit) (s .pre .0) (i .started) (lt-of-lt-of-le (inside at) (i .fit .cycle .high)),
         (ready-as (i .sized) (s .pre .1 .0), record { circuit = s .pre .1 .1 .circuit; within = next-le (inside at); low = more .low }),
       )
 
@@ -213,7 +223,7 @@ module _ (t : ℕ) where
   walk-same-length-3 : walk-lts.Need-same-length-3 (walk-calls t) (walk-at t) walk.Post walk-Inv-loop walk-μ-loop
   walk-same-length-3 c =
       let called = c .before .before .before .before .before in
-      called .walk .kept .1 .1 .1 .0 ∙ passed (called .before .before .before .before .before) .sized
+      called .walk .kept .1 .1 .0 ∙ passed (called .before .before .before .before .before) .sized
 
   walk-returns-3 : walk-lts.Need-returns-3 (walk-calls t) (walk-at t) walk.Post walk-Inv-loop walk-μ-loop
   walk-returns-3 c =
@@ -227,7 +237,7 @@ module _ (t : ℕ) where
   walk-same-length-4 : walk-lts.Need-same-length-4 (walk-calls t) (walk-at t) walk.Post walk-Inv-loop walk-μ-loop
   walk-same-length-4 c =
       let called = c .before .before .before .before in
-      called .walk .kept .1 .1 .1 .0 ∙ passed (called .before .before .before .before .before) .sized
+      called .walk .kept .1 .1 .0 ∙ passed (called .before .before .before .before .before) .sized
 
   walk-returns-4 : walk-lts.Need-returns-4 (walk-calls t) (walk-at t) walk.Post walk-Inv-loop walk-μ-loop
   walk-returns-4 c =
@@ -239,15 +249,10 @@ module _ (t : ℕ) where
   walk-enum-known-rest-2 c = search needs
 
   walk-add-if5 : walk-lts.Need-add-if5 (walk-calls t) (walk-at t) walk.Post walk-Inv-loop walk-μ-loop
-  walk-add-if5 c =
-      let s = c .before .before .before .before .before .before .before .before .before .before .before .before in
-      let x = s .args in
-      omega (arith, s .pre .1 .0 .short (x .c), ones-le cycleMost (x .mask) (s .fits .mask .fits))
+  walk-add-if5 c = let i = passed (c .before .before) in let f = i .fit in omega (arith, ones-le cycleMost _ (word i))
 
   walk-add-if5-2 : walk-lts.Need-add-if5-2 (walk-calls t) (walk-at t) walk.Post walk-Inv-loop walk-μ-loop
-  walk-add-if5-2 c =
-      let s = c .before .before .before .before .before .before .before .before .before .before .before .before in
-      omega (arith, s .pre .1 .0 .small (s .args .c), s .pre .1 .0 .short (s .args .c), inside (c .before))
+  walk-add-if5-2 c = let f = passed (c .before .before) .fit in omega (arith, inside (c .before))
 
   walk-same-length-5 : walk-lts.Need-same-length-5 (walk-calls t) (walk-at t) walk.Post walk-Inv-loop walk-μ-loop
   walk-same-length-5 c = nothing-long (passed (c .before .before .before)) (nothing (c .before))
@@ -255,7 +260,7 @@ module _ (t : ℕ) where
   walk-returns-5 : walk-lts.Need-returns-5 (walk-calls t) (walk-at t) walk.Post walk-Inv-loop walk-μ-loop
   walk-returns-5 c =
       let met = c .before in
-      out-shut (passed (met .before .before)) (inside (met .before)) (nothing met) (c .if5 .taken)
+      out-shut (passed (met .before .before)) (inside (met .before)) (nothing met) (omega arith)
 
   walk-same-length-6 : walk-lts.Need-same-length-6 (walk-calls t) (walk-at t) walk.Post walk-Inv-loop walk-μ-loop
   walk-same-length-6 c = nothing-long (passed (c .before .before .before .before)) (nothing (c .before .before))
@@ -263,13 +268,13 @@ module _ (t : ℕ) where
   walk-returns-6 : walk-lts.Need-returns-6 (walk-calls t) (walk-at t) walk.Post walk-Inv-loop walk-μ-loop
   walk-returns-6 c =
       let met = c .before .before in
-      out-broke (passed (met .before .before)) (inside (met .before)) (nothing met) (c .before .if5 .left) (c .if6 .taken)
+      out-broke (passed (met .before .before)) (inside (met .before)) (nothing met) (omega arith) (c .if6 .taken)
 
   walk-sub-left-3 : walk-lts.Need-sub-left-3 (walk-calls t) (walk-at t) walk.Post walk-Inv-loop walk-μ-loop
   walk-sub-left-3 c = omega arith
 
   walk-add-a : walk-lts.Need-add-a (walk-calls t) (walk-at t) walk.Post walk-Inv-loop walk-μ-loop
-  walk-add-a c = omega (arith, passed (c .before .before .before .before .before) .short, inside (c .before .before .before .before))
+  walk-add-a c = omega (arith, passed (c .before .before .before .before .before) .fit .cycle .high, inside (c .before .before .before .before))
 
   walk-loop-less-2 : walk-lts.Need-loop-less-2 (walk-calls t) (walk-at t) walk.Post walk-Inv-loop walk-μ-loop
   walk-loop-less-2 c =
@@ -279,7 +284,7 @@ module _ (t : ℕ) where
   walk-loop-again-2 : walk-lts.Need-loop-again-2 (walk-calls t) (walk-at t) walk.Post walk-Inv-loop walk-μ-loop
   walk-loop-again-2 c =
       let met = c .before .before .before in
-      turn-again (passed (met .before .before)) (inside (met .before)) (nothing met) (c .before .before .if5 .left) (c .before .if6 .left)
+      turn-again (passed (met .before .before)) (inside (met .before)) (nothing met) (omega arith) (c .before .if6 .left)
 
   walk-mul-taken : walk-lts.Need-mul-taken (walk-calls t) (walk-at t) walk.Post walk-Inv-loop walk-μ-loop
   walk-mul-taken c = omega arith
@@ -292,38 +297,39 @@ module _ (t : ℕ) where
 
   walk-enter-requires : walk-lts.Need-enter-requires (walk-calls t) (walk-at t) walk.Post walk-Inv-loop walk-μ-loop
   walk-enter-requires c κs =
-      let s = c .before .before .before .before .before .before .before .before .before in
+      let s = c .before .before .before .before .before .before in
       let l = c .before .before .loop in
-      (omega arith, (ready-as (length-set (l .taken) (s .args .c) (s .args .mask) ∙ l .inv .sized) (s .pre .1 .0), omega arith))
+      (omega arith, (ready-as (length-set (l .taken) (s .args .at .circuit) (s .args .at .mask) ∙ l .inv .sized) (s .pre .1 .0), omega arith))
 
   walk-same-length-7 : walk-lts.Need-same-length-7 (walk-calls t) (walk-at t) walk.Post walk-Inv-loop walk-μ-loop
   walk-same-length-7 c =
-      let x = c .before .before .before .before .before .before .before .before .before .before .before .before .args in
+      let x = c .before .before .before .before .before .before .before .before .before .args in
       let l = c .before .before .before .before .before .loop in
-      c .before .before .enter .kept .1 .1 .1 .0 ∙ length-set (l .taken) (x .c) (x .mask) ∙ l .inv .sized
+      c .before .before .enter .kept .1 .1 .0 ∙ length-set (l .taken) (x .at .circuit) (x .at .mask) ∙ l .inv .sized
 
   walk-returns-7 : walk-lts.Need-returns-7 (walk-calls t) (walk-at t) walk.Post walk-Inv-loop walk-μ-loop
   walk-returns-7 c =
-      let s = c .before .before .before .before .before .before .before .before .before .before .before .before in
+      let s = c .before .before .before .before .before .before .before .before .before in
       let i = c .before .before .before .before .before .loop .inv in
       let z = i .sized in
       let m = s .pre .1 .0 .room in
-      out-end i (c .before .before .before .before .loop-test .left) (s .pre .1 .1 .circuit) (omega arith) (c .before .before .enter .ensures)
+      out-end i (omega arith) (s .pre .1 .1 .circuit) (omega arith) (c .before .before .enter .ensures)
 
 pub +enter+walk-spec : {M : Type 1} → statement M
 +enter+walk-spec =
     close μ-enter μ-walk
     (λ t. enter-lts.spec (enter-calls t) (enter-at t) enter.Post
+    (enter-circuits-requires t)
     (enter-returns t)
     (enter-blocked-requires t)
     (enter-walk-requires t)
     (enter-same-length t)
     (enter-returns-2 t))
     λ t. walk-lts.spec (walk-calls t) (walk-at t) walk.Post walk-Inv-loop walk-μ-loop
-    (walk-mul-cycle t)
-    (walk-shared-slice-read-cycle t)
-    (walk-mul-demand t)
-    (walk-shared-slice-read-demand t)
+    (walk-cycle-requires t)
+    (walk-cast-cycle t)
+    (walk-demand-requires t)
+    (walk-cast-demand t)
     (walk-loop-holds t)
     (walk-next-cell-requires t)
     (walk-sub-if1 t)

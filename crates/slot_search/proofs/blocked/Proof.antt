@@ -8,26 +8,26 @@ use lib.ListN.{take, drop}
 use Rattle.model.specs.Search.{barred}
 use Rattle.num_mask.specs.Bits.{bit, offsets}
 use Rattle.num_mask.proofs.Laws.{bit-none}
-use Rattle.slot_search.specs.Code.{clashIn}
+use Rattle.slot_grid.specs.Table.{clashIn}
 use Rattle.slot_search.proofs.WalkLaws.{shut-step, shut-done}
 use Rattle.slot_search.proofs.blocked.Statement.{statement}
 use Rattle.slot_search.proofs.blocked.Tie as tie
 
 -- what the circuits from e on shut
-abbrev still : (table taken : List ℕ) (c e i : ℕ) → Bool
-still table taken c e i = barred (clashIn table) c i e (map offsets (drop e (take c taken)))
+abbrev still : (grid taken : List ℕ) (c e i : ℕ) → Bool
+still grid taken c e i = barred (clashIn grid) c i e (map offsets (drop e (take c taken)))
 
 abbrev Inv-loop : tie.InvT-loop
-Inv-loop table taken c acc₀ e₀ acc e =
-    (e ≤ c) × ((i : ℕ) → (bit acc i || still table taken c e i) ≡ barred (clashIn table) c i 0 (map offsets (take c taken)))
+Inv-loop grid taken c acc₀ e₀ acc e =
+    (e ≤ c) × ((i : ℕ) → (bit acc i || still grid taken c e i) ≡ barred (clashIn grid) c i 0 (map offsets (take c taken)))
 
 abbrev μ-loop : tie.MeasureT-loop
-μ-loop table taken c acc₀ e₀ acc e = c - e
+μ-loop grid taken c acc₀ e₀ acc e = c - e
 
 loop-holds : tie.Need-loop-holds Inv-loop μ-loop
 loop-holds c =
-    let x = c .before .before .args in
-    (omega arith, λ i. ap (λ (b : Bool). b || still (x .table .now) (x .taken .now) (x .c) 0 i) (bit-none i))
+    let x = c .before .args in
+    (omega arith, λ i. ap (λ (b : Bool). b || still (x .grid .now) (x .taken .now) (x .c) 0 i) (bit-none i))
 
 mul-gather : tie.Need-mul-gather Inv-loop μ-loop
 mul-gather c = omega arith
@@ -56,20 +56,20 @@ loop-less c = omega arith
 loop-again : tie.Need-loop-again Inv-loop μ-loop
 loop-again c =
     let at = c .before .before .before in
-    let x = at .before .before .before .args in
+    let x = at .before .before .args in
     let e = at .loop .e in (
       omega arith,
-      λ i. ap (λ (n : ℕ). bit n i || still (x .table .now) (x .taken .now) (x .c) (e + 1) i) (c .gather .ensures)
-          ∙ shut-step (x .table .now) (x .taken .now) (x .c) e i (at .loop .acc) (omega arith) (omega arith)
+      λ i. ap (λ (n : ℕ). bit n i || still (x .grid .now) (x .taken .now) (x .c) (e + 1) i) (c .gather .ensures)
+          ∙ shut-step (x .grid .now) (x .taken .now) (x .c) e i (at .loop .acc) (omega arith) (omega arith)
           ∙ at .loop .inv .1 i,
     )
 
 returns : tie.Need-returns Inv-loop μ-loop
 returns c i =
-    let x = c .before .before .before .before .args in
+    let x = c .before .before .before .args in
     let acc = c .before .loop .acc in
     sym (or-false (bit acc i))
-    ∙ ap (λ (b : Bool). bit acc i || b) (sym (shut-done (x .table .now) (x .taken .now) (x .c) (c .before .loop .e) i (omega arith)))
+    ∙ ap (λ (b : Bool). bit acc i || b) (sym (shut-done (x .grid .now) (x .taken .now) (x .c) (c .before .loop .e) i (omega arith)))
     ∙ c .before .loop .inv .1 i
 
 pub blocked-spec : {M : Type 1} → statement M

@@ -15,10 +15,10 @@ use Rattle.slot_search.proofs.gather.Statement.{statement}
 use Rattle.slot_search.proofs.gather.Tie as tie
 
 abbrev Inv-loop : tie.InvT-loop
-Inv-loop table base m from acc₀ rest₀ acc rest = (rest < 2 ^ cycleMost) × (gathered table base acc (offsets rest) ≡ gathered table base from (offsets m))
+Inv-loop grid base m from acc₀ rest₀ acc rest = (rest < 2 ^ cycleMost) × (gathered grid base acc (offsets rest) ≡ gathered grid base from (offsets m))
 
 abbrev μ-loop : tie.MeasureT-loop
-μ-loop table base m from acc₀ rest₀ acc rest = rest
+μ-loop grid base m from acc₀ rest₀ acc rest = rest
 
 first : (c : tie.In-loop Inv-loop μ-loop) → Lowest (c .before .loop .rest) (trailingZeros cycleMost (c .before .loop .rest))
 first c = offsets-first (c .before .loop .rest) (c .before .loop .inv .0) (omega arith)
@@ -39,8 +39,8 @@ add-acc c = omega (arith, first c .inside)
 mul-acc : tie.Need-mul-acc Inv-loop μ-loop
 mul-acc c = omega (arith, first c .inside)
 
-shared-slice-read-acc : tie.Need-shared-slice-read-acc Inv-loop μ-loop
-shared-slice-read-acc c = omega (arith, first (c .before) .inside)
+element-copy-out-acc : tie.Need-element-copy-out-acc Inv-loop μ-loop
+element-copy-out-acc c = omega (arith, first c .inside)
 
 sub-rest : tie.Need-sub-rest Inv-loop μ-loop
 sub-rest c = omega arith
@@ -54,7 +54,7 @@ loop-again c =
     let at = c .before .before in
     let x = at .before .args in
     let f = first (c .before) in
-    rw (without (c .before)) (omega arith, ap (gathered (x .table .now) (x .base) (at .loop .acc)) (sym (f .parts)) ∙ at .loop .inv .1)
+    rw (without (c .before)) (omega arith, ap (gathered (x .grid .now) (x .base) (at .loop .acc)) (sym (f .parts)) ∙ at .loop .inv .1)
 
 returns : tie.Need-returns Inv-loop μ-loop
 unfolding gathered
@@ -62,7 +62,7 @@ returns c =
     let at = c .before in
     let x = at .before .args in
     let none : offsets (at .loop .rest) ≡ offsets 0 = ap offsets (c .loop-test .left) in
-    ap (gathered (x .table .now) (x .base) (at .loop .acc)) (sym (none ∙ offsets-zero)) ∙ at .loop .inv .1
+    ap (gathered (x .grid .now) (x .base) (at .loop .acc)) (sym (none ∙ offsets-zero)) ∙ at .loop .inv .1
 
 pub gather-spec : {M : Type 1} → statement M
 gather-spec =
@@ -74,7 +74,7 @@ gather-spec =
     cast-acc
     add-acc
     mul-acc
-    shared-slice-read-acc
+    element-copy-out-acc
     sub-rest
     loop-less
     loop-again

@@ -1,26 +1,18 @@
 -- `vaskunoor::allocate` meets its contract. Assumes nothing.
 use mathlib.Core.Path.{refl}
-use Rattle.plan_load.proofs.Loading.{request-byte}
-use Rattle.vaskunoor.proofs.Allotting.{refused, holds-here, too-short, needed-small, no-room, not-finished, room-here, written-small, given-here}
+use Rattle.vaskunoor.proofs.Allotting.{refused, usable-here, needed-small, too-short, no-room, not-finished, room-here, written-small, given-here}
 use borrow.Author.Needs.{needs}
 use Rattle.vaskunoor.proofs.allocate.Statement.{statement}
 use Rattle.vaskunoor.proofs.allocate.Tie as tie
-use Rattle.vaskunoor.proofs.allocate.Reads as reads
-use Rattle.vaskunoor.proofs.allocate.Lts as lts
-use Rattle.plan_load.proofs.fault_answer.Reads as fault-answer-reads
-use Rattle.file_writer.proofs.write_assignment.Reads as write-assignment-reads
-use Rattle.slot_allot.proofs.assignment_size.Reads as assignment-size-reads
-use Rattle.plan_load.proofs.load.Reads as load-reads
-use Rattle.slot_allot.proofs.search_slots.Reads as search-slots-reads
+
+slice-aggregate-load : tie.Need-slice-aggregate-load
+slice-aggregate-load c = search needs
 
 load-requires : tie.Need-load-requires
 load-requires c κs = search needs
 
-enum-known-ending : tie.Need-enum-known-ending
-enum-known-ending c = search needs
-
-fault-answer-requires : tie.Need-fault-answer-requires
-fault-answer-requires c κs = search request-byte
+enum-known-refusal : tie.Need-enum-known-refusal
+enum-known-refusal c = search needs
 
 returns : tie.Need-returns
 returns c = search refused
@@ -29,31 +21,28 @@ enum-told : tie.Need-enum-told
 enum-told c = search needs
 
 assignment-size-requires : tie.Need-assignment-size-requires
-assignment-size-requires c κs = search holds-here
+assignment-size-requires c κs = search usable-here
 
-cast-t16 : tie.Need-cast-t16
-cast-t16 c = search needed-small
+cast-t17 : tie.Need-cast-t17
+cast-t17 c = search (needed-small, c .before .assignment-size .ensures)
 
 returns-2 : tie.Need-returns-2
-returns-2 c = search too-short
+returns-2 c = search (too-short, c .before .assignment-size .ensures)
 
 slice-aggregate-search-slots : tie.Need-slice-aggregate-search-slots
 slice-aggregate-search-slots c = search needs
 
 search-slots-requires : tie.Need-search-slots-requires
-search-slots-requires c κs = (search holds-here, refl)
+search-slots-requires c κs = (search usable-here, refl)
 
 enum-known-visits : tie.Need-enum-known-visits
 enum-known-visits c = search needs
 
-slice-aggregate-write-assignment : tie.Need-slice-aggregate-write-assignment
-slice-aggregate-write-assignment c = search needs
-
 write-assignment-requires : tie.Need-write-assignment-requires
-write-assignment-requires c κs = search room-here
+write-assignment-requires c κs = (search usable-here, search (room-here, c .before .before .before .before .before .before .before .before .before .before .before .assignment-size .ensures, c .before .before .before .before .before .before .before .search-slots .ensures))
 
-cast-t25 : tie.Need-cast-t25
-cast-t25 c = search written-small
+cast-t27 : tie.Need-cast-t27
+cast-t27 c = search (written-small, c .before .before .before .before .before .before .before .before .before .before .before .before .before .before .assignment-size .ensures, c .before .before .before .before .before .before .before .before .before .before .search-slots .ensures)
 
 enum-known-visits-2 : tie.Need-enum-known-visits-2
 enum-known-visits-2 c = search needs
@@ -65,32 +54,31 @@ same-length : tie.Need-same-length
 same-length c = search needs
 
 returns-3 : tie.Need-returns-3
-returns-3 c = search given-here
+returns-3 c = search (given-here, c .before .before .before .before .before .before .before .before .before .before .before .before .before .before .assignment-size .ensures, c .before .before .before .before .before .before .before .before .before .before .search-slots .ensures)
 
 returns-4 : tie.Need-returns-4
-returns-4 c = search no-room
+returns-4 c = search (no-room, c .before .before .before .before .before .before .before .before .assignment-size .ensures, c .before .before .before .before .search-slots .ensures)
 
 returns-5 : tie.Need-returns-5
-returns-5 c = search not-finished
+returns-5 c = search (not-finished, c .before .before .before .before .before .before .before .assignment-size .ensures, c .before .before .before .search-slots .ensures)
 
 pub allocate-spec : {M : Type 1} → statement M
 allocate-spec =
     tie.close
     (tie.spec
+    slice-aggregate-load
     load-requires
-    enum-known-ending
-    fault-answer-requires
+    enum-known-refusal
     returns
     enum-told
     assignment-size-requires
-    cast-t16
+    cast-t17
     returns-2
     slice-aggregate-search-slots
     search-slots-requires
     enum-known-visits
-    slice-aggregate-write-assignment
     write-assignment-requires
-    cast-t25
+    cast-t27
     enum-known-visits-2
     enum-told-2
     same-length

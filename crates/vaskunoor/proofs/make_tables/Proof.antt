@@ -1,87 +1,80 @@
 -- `vaskunoor::make_tables` meets its contract. Assumes nothing.
+use native.Mathlib.Omega.{arith}
+use Rattle.vaskunoor.proofs.Loading.{slotted-here, usable-here}
+use Rattle.vaskunoor.proofs.Makes.{make-unread, make-clash, needed-fits, make-short, wrote-fits, make-made}
 use borrow.Author.Needs.{needs}
-use Rattle.vaskunoor.proofs.Makes.{make-told, counts-fit, needed-fits, make-short, table-fits, wrote-fits, make-made}
 use Rattle.vaskunoor.proofs.make_tables.Statement.{statement}
 use Rattle.vaskunoor.proofs.make_tables.Tie as tie
-use Rattle.vaskunoor.proofs.make_tables.Reads as reads
-use Rattle.vaskunoor.proofs.make_tables.Lts as lts
-use Rattle.line_maker.proofs.table_size.Reads as table-size-reads
-use Rattle.line_maker.proofs.write_table.Reads as write-table-reads
-use Rattle.call_checks.proofs.check_both.Reads as check-both-reads
 
-check-both-requires : tie.Need-check-both-requires
-check-both-requires c κs = search needs
+slice-aggregate-load-both : tie.Need-slice-aggregate-load-both
+slice-aggregate-load-both c = search needs
+
+slice-aggregate-load-both-2 : tie.Need-slice-aggregate-load-both-2
+slice-aggregate-load-both-2 c = search needs
+
+load-both-requires : tie.Need-load-both-requires
+load-both-requires c κs = search needs
 
 enum-known-refusal : tie.Need-enum-known-refusal
 enum-known-refusal c = search needs
 
 returns : tie.Need-returns
-returns c = search make-told
+returns c = search make-unread
 
 enum-told : tie.Need-enum-told
 enum-told c = search needs
 
-slice-aggregate-table-size : tie.Need-slice-aggregate-table-size
-slice-aggregate-table-size c = search needs
+first-clash-requires : tie.Need-first-clash-requires
+first-clash-requires c κs = search slotted-here
 
-slice-aggregate-table-size-2 : tie.Need-slice-aggregate-table-size-2
-slice-aggregate-table-size-2 c = search needs
-
-table-size-requires : tie.Need-table-size-requires
-table-size-requires c κs = search counts-fit
-
-cast-t21 : tie.Need-cast-t21
-cast-t21 c = search needed-fits
+enum-known-clash : tie.Need-enum-known-clash
+enum-known-clash c = search needs
 
 returns-2 : tie.Need-returns-2
-returns-2 c = search make-short
+returns-2 c = search (make-clash, c .before .before .before .first-clash .ensures)
 
-slice-aggregate-write-table : tie.Need-slice-aggregate-write-table
-slice-aggregate-write-table c = search needs
+enum-told-2 : tie.Need-enum-told-2
+enum-told-2 c = search needs
 
-slice-aggregate-write-table-2 : tie.Need-slice-aggregate-write-table-2
-slice-aggregate-write-table-2 c = search needs
+table-size-requires : tie.Need-table-size-requires
+table-size-requires c κs = search usable-here
 
-slice-aggregate-write-table-3 : tie.Need-slice-aggregate-write-table-3
-slice-aggregate-write-table-3 c = search needs
+cast-t22 : tie.Need-cast-t22
+cast-t22 c = search (needed-fits, c .before .before .before .before .before .before .first-clash .ensures)
 
-slice-aggregate-write-table-4 : tie.Need-slice-aggregate-write-table-4
-slice-aggregate-write-table-4 c = search needs
-
-slice-aggregate-write-table-5 : tie.Need-slice-aggregate-write-table-5
-slice-aggregate-write-table-5 c = search needs
+returns-3 : tie.Need-returns-3
+returns-3 c = search (make-short, c .before .before .before .before .before .before .first-clash .ensures)
 
 write-table-requires : tie.Need-write-table-requires
-write-table-requires c κs = search table-fits
+write-table-requires c κs = (search usable-here, omega (arith, c .before .before .before .before .table-size .ensures))
 
-cast-t34 : tie.Need-cast-t34
-cast-t34 c = search wrote-fits
+cast-t27 : tie.Need-cast-t27
+cast-t27 c = search (wrote-fits, c .before .before .before .before .before .before .before .before .before .before .before .before .first-clash .ensures)
 
 same-length : tie.Need-same-length
 same-length c = search needs
 
-returns-3 : tie.Need-returns-3
-returns-3 c = search make-made
+returns-4 : tie.Need-returns-4
+returns-4 c = search (make-made, c .before .before .before .before .before .before .before .before .before .before .before .before .first-clash .ensures)
 
 pub make-tables-spec : {M : Type 1} → statement M
 make-tables-spec =
     tie.close
     (tie.spec
-    check-both-requires
+    slice-aggregate-load-both
+    slice-aggregate-load-both-2
+    load-both-requires
     enum-known-refusal
     returns
     enum-told
-    slice-aggregate-table-size
-    slice-aggregate-table-size-2
-    table-size-requires
-    cast-t21
+    first-clash-requires
+    enum-known-clash
     returns-2
-    slice-aggregate-write-table
-    slice-aggregate-write-table-2
-    slice-aggregate-write-table-3
-    slice-aggregate-write-table-4
-    slice-aggregate-write-table-5
+    enum-told-2
+    table-size-requires
+    cast-t22
+    returns-3
     write-table-requires
-    cast-t34
+    cast-t27
     same-length
-    returns-3)
+    returns-4)

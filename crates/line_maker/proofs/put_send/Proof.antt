@@ -1,0 +1,71 @@
+-- `line_maker::put_send` meets its contract. Assumes nothing.
+use Prim.Native.Nat.{_+_, _≤_}
+use native.Mathlib.Nat.{mod-lt}
+use Rattle.line_maker.specs.Files.{sendBytes}
+use Rattle.line_maker.proofs.Sizes.{send-length}
+use borrow.Author.Needs.{needs}
+use native.Mathlib.Omega.{arith}
+use Rattle.line_maker.proofs.put_send.Statement.{statement}
+use Rattle.line_maker.proofs.put_send.Tie as tie
+
+cycle-requires : tie.Need-cycle-requires
+cycle-requires c κs = search needs
+
+router-requires : tie.Need-router-requires
+router-requires c κs = search needs
+
+cast-router : tie.Need-cast-router
+cast-router c = omega (arith, c .before .before .before .pre .0 .0 .router-low (c .before .before .before .args .j) (omega arith))
+
+sent-requires : tie.Need-sent-requires
+sent-requires c κs = search needs
+
+add-slot : tie.Need-add-slot
+add-slot c = omega (arith, c .before .before .before .before .pre .0 .0 .sent-low (c .before .before .before .before .args .j) (omega arith))
+
+rem-slot : tie.Need-rem-slot
+rem-slot c = search needs
+
+cast-slot : tie.Need-cast-slot
+cast-slot c = let some : 1 ≤ c .before .before .cycle .result = omega (arith, c .before .before .before .before .pre .0 .0 .cycle .low) in omega (arith, mod-lt (c .before .before .before .before .args .a + c .sent .result) some)
+
+cast-put-line : tie.Need-cast-put-line
+cast-put-line c = search needs
+
+inp-requires : tie.Need-inp-requires
+inp-requires c κs = search needs
+
+out-requires : tie.Need-out-requires
+out-requires c κs = search needs
+
+put-line-requires : tie.Need-put-line-requires
+put-line-requires c κs = search needs
+
+add-result : tie.Need-add-result
+add-result c = search needs
+
+same-length : tie.Need-same-length
+same-length c = search needs
+
+returns : tie.Need-returns
+unfolding sendBytes
+returns c = record { area = cc; next = omega (arith, send-length (c .before .before .before .before .before .before .before .before .before .before .args .p .now) (c .before .before .before .before .before .before .before .before .before .before .args .c) (c .before .before .before .before .before .before .before .before .before .before .args .a) (c .before .before .before .before .before .before .before .before .before .before .args .j)) }
+
+pub put-send-spec : {M : Type 1} → statement M
+put-send-spec =
+    tie.close
+    (tie.spec
+    cycle-requires
+    router-requires
+    cast-router
+    sent-requires
+    add-slot
+    rem-slot
+    cast-slot
+    cast-put-line
+    inp-requires
+    out-requires
+    put-line-requires
+    add-result
+    same-length
+    returns)

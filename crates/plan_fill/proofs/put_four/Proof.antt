@@ -1,0 +1,24 @@
+-- `plan_fill::put_four` meets its contract. Assumes nothing.
+use Rattle.plan_fill.proofs.Loading.{four-put}
+use borrow.Author.Needs.{needs}
+use Rattle.plan_fill.proofs.put_four.Statement.{statement}
+use Rattle.plan_fill.proofs.put_four.Tie as tie
+
+put-two-requires : tie.Need-put-two-requires
+put-two-requires c κs = search needs
+
+add-put-two : tie.Need-add-put-two
+add-put-two c = search needs
+
+put-two-requires-2 : tie.Need-put-two-requires-2
+put-two-requires-2 c κs = search needs
+
+same-length : tie.Need-same-length
+same-length c = search needs
+
+returns : tie.Need-returns
+returns c = four-put (c .before .before .before .before .before .before .put-two .ensures) (c .before .before .put-two2 .ensures)
+
+pub put-four-spec : {M : Type 1} → statement M
+put-four-spec =
+    tie.close (tie.spec put-two-requires add-put-two put-two-requires-2 same-length returns)

@@ -1,0 +1,3 @@
+-- Laws of offsets that are taken into masks. Assumes nothing.
+pub mod Taking
+pub mod Masking

@@ -1,0 +1,2 @@
+-- Laws of the assignment that is written. Assumes nothing.
+pub mod Files
