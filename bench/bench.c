@@ -131,7 +131,36 @@ static void search(const char *name, const struct plan *p, uint32_t budget) {
 
 /* ---- the checks */
 
+enum { CHECK_ROUNDS = 200, PLAIN_ROUNDS = 20 };
 struct times { double check, plain, assigned; };
+
+/* the table check on the table as it stands, which must answer this number, as the plain program does */
+static double table_check(const struct plan *p, int lines, uint32_t number) {
+    double best = 1e9;
+    for (int round = 0; round < CHECK_ROUNDS; round++) {
+        double t = now();
+        uint32_t a = vaskunoor_check_tables(request, request_size, assignment, assignment_size, table, table_size, details, sizeof details);
+        t = now() - t;
+        if (t < best) best = t;
+        if (a != number) { printf("the table check answers %u in place of %u\n", a, number); exit(1); }
+    }
+    if ((uint32_t)plain_check(p, table, lines) != number) { printf("the plain check does not answer %u\n", number); exit(1); }
+    return best;
+}
+
+/* tables that are refused at their last series: its line leads to the buffer of the ring that runs the other way, and then it is missing */
+static void refusals(const struct plan *p, int lines) {
+    uint8_t *last = table + 12 * (lines - 1);
+    int out = word_at(last + 10), other = out;
+    for (int b = 0; b < p->buffers; b++) if (b != out && p->from[b] == p->from[out]) other = b;
+    last[10] = other;
+    double astray = table_check(p, lines, 16);
+    memcpy(last, last + 12, 4);
+    table_size -= 12;
+    double missing = table_check(p, lines - 1, 13);
+    printf("%d circuits, %d lines, the last led elsewhere: table check %.3f ms; the last missing: %.3f ms\n", p->circuits, lines,
+           astray * 1e3, missing * 1e3);
+}
 
 static struct times checks(int n, int demand, int mixed) {
     static struct plan p;
@@ -142,24 +171,24 @@ static struct times checks(int n, int demand, int mixed) {
     table_size = detail(0);
     int lines = (table_size - 4) / 12;
     if (made != 0 || lines != (mixed ? 48 : 64) * n * demand) { printf("no table: %u\n", made); exit(1); }
-    for (int round = 0; round < 20; round++) {
+    best.check = table_check(&p, lines, 0);
+    for (int round = 0; round < CHECK_ROUNDS; round++) {
         double t = now();
-        uint32_t a = vaskunoor_check_tables(request, request_size, assignment, assignment_size, table, table_size, details, sizeof details);
-        t = now() - t;
-        if (t < best.check) best.check = t;
-        t = now();
         uint32_t b = vaskunoor_check_assignment(request, request_size, assignment, assignment_size, details, sizeof details);
         t = now() - t;
         if (t < best.assigned) best.assigned = t;
-        t = now();
-        int c = plain_check(&p, table, lines);
+        if (b) { printf("a good plan was refused: %u\n", b); exit(1); }
+    }
+    for (int round = 0; round < PLAIN_ROUNDS; round++) {
+        double t = now();
+        plain_check(&p, table, lines);
         t = now() - t;
         if (t < best.plain) best.plain = t;
-        if (a || b || c) { printf("a good plan was refused: %u %u %d\n", a, b, c); exit(1); }
     }
     printf("%d circuits%s, %d lines: table check %.3f ms, plain %.3f ms, %.1f times; assignment check %.3f ms\n", p.circuits,
            mixed ? " of cycles 32 and 16" : "", lines,
            best.check * 1e3, best.plain * 1e3, best.plain / best.check, best.assigned * 1e3);
+    if (n > 1) refusals(&p, lines);
     return best;
 }
 
