@@ -20,7 +20,7 @@ use Rattle.model.proofs.Divisor.{wrap}
 use Rattle.model.proofs.Clashing.{holds→, →holds, →clashes, turned, Holds-at}
 use Rattle.model.proofs.Sound.{uses-small}
 use Rattle.model.proofs.Checking.{clash-none, clash-first}
-use Rattle.plan.specs.Plan.{circuitsIn, cycleIn, bookingIn, Booked, Fit}
+use Rattle.plan.specs.Plan.{circuitsIn, cycleIn, bookingIn, Booked, InBounds}
 use Rattle.plan.proofs.Laws.{booking-is}
 use Rattle.clash_first.specs.Held.{SlotsOf}
 
@@ -95,7 +95,7 @@ module _ {p q : Booking} where
 
 -- ---- two circuits of a plan
 
-module _ (p m : List ℕ) (c e : ℕ) (fit-c : Fit p c) (fit-e : Fit p e) where
+module _ (p m : List ℕ) (c e : ℕ) (fit-c : InBounds p c) (fit-e : InBounds p e) where
   pub plan-skip : clashes? (bookingIn p m c) (bookingIn p m e) ≡ false → ClearPair (bookingIn p m c) (bookingIn p m e)
   unfolding bookingIn
   plan-skip f = pair-skip {p = bookingIn p m c} {q = bookingIn p m e} (fit-c .cycle .low) (fit-e .cycle .low) f
@@ -105,7 +105,7 @@ module _ (p m : List ℕ) (c e : ℕ) (fit-c : Fit p c) (fit-e : Fit p e) where
   plan-all clear is all = slots-all {p = bookingIn p m c} {q = bookingIn p m e} clear (rw (is .is) at all)
 
 -- their product is small
-pub slots-are : {p : List ℕ} {c e x y : ℕ} → Fit p c → Fit p e → x ≡ cycleIn p c → y ≡ cycleIn p e → SlotsOf p c e (x * y)
+pub slots-are : {p : List ℕ} {c e x y : ℕ} → InBounds p c → InBounds p e → x ≡ cycleIn p c → y ≡ cycleIn p e → SlotsOf p c e (x * y)
 slots-are {p} {c} {e} {x} {y} fc fe is-x is-y = record {
   is = ap₂ (λ a b. a * b) is-x is-y;
   few = mul-le-mul {n₁ = x} {m₁ = y} {n₂ = cycleMost} {m₂ = cycleMost} (rw is-x (fc .cycle .high)) (rw is-y (fe .cycle .high));

@@ -19,7 +19,7 @@ use Rattle.num_divisor.specs.Common.{Cycle}
 use Rattle.num_mask.specs.Bits.{bit, offsets}
 use Rattle.num_mask.proofs.Laws.{offsets-in, offsets-below}
 use Rattle.num_cyclic.specs.Ahead.{ahead}
-use Rattle.plan.specs.Plan.{cycleIn, useCount, whatIn, afterIn, useIn, bookingIn, Fit}
+use Rattle.plan.specs.Plan.{cycleIn, useCount, whatIn, afterIn, useIn, bookingIn, InBounds}
 use Rattle.num_cyclic.proofs.Ahead.{ahead-low, ahead-back}
 use Rattle.clash_pair.proofs.Marking.{any-zero, any-more}
 use Rattle.clash_first.specs.Held.{heldBy}
@@ -87,7 +87,7 @@ module _ {p : List ℕ} {c cycle m t w : ℕ} where
 
 -- ---- what it comes to
 
-module _ (p m : List ℕ) (c t w : ℕ) {d : ℕ} (fit : Fit p c) (low : getD m c 0 < 2 ^ cycleIn p c) (is-d : d ≡ cycleIn p c) where
+module _ (p m : List ℕ) (c t w : ℕ) {d : ℕ} (fit : InBounds p c) (low : getD m c 0 < 2 ^ cycleIn p c) (is-d : d ≡ cycleIn p c) where
   pub holds-true : {k x y a : ℕ} → k < useCount p c → x ≡ whatIn p c k → x ≡ w → y ≡ afterIn p c k → a ≡ ahead d t y → bit (getD m c 0) a ≡ true
       → true ≡ holds? (bookingIn p m c) t w
   unfolding bookingIn heldBy useIn

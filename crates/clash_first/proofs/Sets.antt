@@ -8,7 +8,7 @@ use lib.Dec.{T}
 use Rattle.model.specs.Holding.{Booking, Holds, Clash, clashes?}
 use Rattle.model.proofs.Tests.{upTo→, bool-same}
 use Rattle.model.proofs.Clashing.{clashes→}
-use Rattle.plan.specs.Plan.{useCount, whatIn, useIn, bookingIn, Fit}
+use Rattle.plan.specs.Plan.{useCount, whatIn, useIn, bookingIn, InBounds}
 use Rattle.clash_sets.specs.Sets.{wordBits, setWords, InSet, Collected, Apart}
 use Rattle.clash_sets.proofs.Sets.{no-common}
 
@@ -20,7 +20,7 @@ held-in p m c s {t} {w} h =
     let is : whatIn p c (i .0) ≡ w = sym (ap (λ u. u .what) (i .2)) ∙ h .same in
     rw is at (s .at (i .0) (i .1))
 
-pub apart-never : (p m : List ℕ) (c e : ℕ) {sets : List ℕ} → Fit p c → Fit p e → Collected p sets c (useCount p c) → Collected p sets e (useCount p e)
+pub apart-never : (p m : List ℕ) (c e : ℕ) {sets : List ℕ} → InBounds p c → InBounds p e → Collected p sets c (useCount p c) → Collected p sets e (useCount p e)
     → Apart sets c e setWords → clashes? (bookingIn p m c) (bookingIn p m e) ≡ false
 unfolding bookingIn
 apart-never p m c e {sets} fc fe sc se apart = bool-same _ _ (λ t. never (clashes→ P Q (positive c fc) (positive e fe) t)) (λ t. absurd t)
@@ -31,7 +31,7 @@ apart-never p m c e {sets} fc fe sc se apart = bool-same _ _ (λ t. never (clash
     Q : Booking
     Q = bookingIn p m e
 
-    positive : (x : ℕ) → Fit p x → zero < bookingIn p m x .cycle
+    positive : (x : ℕ) → InBounds p x → zero < bookingIn p m x .cycle
     positive x f = f .cycle .low
 
     never : Clash P Q → T false

@@ -3,7 +3,7 @@ ghost use mathlib.Core.Path.{_≡_};
 ghost use Prim.Native.Nat.{_^_, _<_};
 ghost use lib.ListN.{getD};
 ghost use Rattle.model.specs.Holding.{holds?, both?, clashes?};
-ghost use Rattle.plan.specs.Plan.{cycleIn, useCount, bookingIn, Fit, Slotted};
+ghost use Rattle.plan.specs.Plan.{cycleIn, useCount, bookingIn, InBounds, Slotted};
 ghost use Rattle.clash_sets.specs.Sets.{Collected};
 ghost use Rattle.clash_first.specs.Held.{SlotsOf, FirstIs};
 use clash_sets::SETS_SIZE;
@@ -18,7 +18,7 @@ use plan_refusal::Refusal;
 
 // Whether circuit c holds w in slot t.
 fn holds(p: &Plan, m: &Masks, c: usize, t: usize, w: usize) -> bool
-    requires { ⌜ Fit (now p) c ⌝ }
+    requires { ⌜ InBounds (now p) c ⌝ }
     requires { ⌜ getD (now m) c 0 < 2 ^ cycleIn (now p) c ⌝ }
     ensures { λ r. ⌜ r ≡ holds? (bookingIn (now (p .entry)) (now (m .entry)) c) t w ⌝ }
 {
@@ -38,8 +38,8 @@ fn holds(p: &Plan, m: &Masks, c: usize, t: usize, w: usize) -> bool
 
 // Whether circuits c and e both hold w in slot t.
 fn both_hold(p: &Plan, m: &Masks, c: usize, e: usize, t: usize, w: usize) -> bool
-    requires { ⌜ Fit (now p) c × (getD (now m) c 0 < 2 ^ cycleIn (now p) c) ⌝ }
-    requires { ⌜ Fit (now p) e × (getD (now m) e 0 < 2 ^ cycleIn (now p) e) ⌝ }
+    requires { ⌜ InBounds (now p) c × (getD (now m) c 0 < 2 ^ cycleIn (now p) c) ⌝ }
+    requires { ⌜ InBounds (now p) e × (getD (now m) e 0 < 2 ^ cycleIn (now p) e) ⌝ }
     ensures { λ r. ⌜ r ≡ both? (bookingIn (now (p .entry)) (now (m .entry)) c) (bookingIn (now (p .entry)) (now (m .entry)) e) t w ⌝ }
 {
     if !holds(p, m, c, t, w) {
@@ -50,7 +50,7 @@ fn both_hold(p: &Plan, m: &Masks, c: usize, e: usize, t: usize, w: usize) -> boo
 
 // Whether circuits c and e clash: never where their sets are apart.
 fn clashes_by_sets(sets: &Sets, p: &Plan, m: &Masks, c: usize, e: usize) -> bool
-    requires { ⌜ Fit (now p) c × Fit (now p) e ⌝ }
+    requires { ⌜ InBounds (now p) c × InBounds (now p) e ⌝ }
     requires { ⌜ Collected (now p) (now sets) c (useCount (now p) c) ⌝ }
     requires { ⌜ Collected (now p) (now sets) e (useCount (now p) e) ⌝ }
     ensures { λ r. ⌜ r ≡ clashes? (bookingIn (now (p .entry)) (now (m .entry)) c) (bookingIn (now (p .entry)) (now (m .entry)) e) ⌝ }
@@ -65,7 +65,7 @@ fn clashes_by_sets(sets: &Sets, p: &Plan, m: &Masks, c: usize, e: usize) -> bool
 
 // The slots before both circuits come round together for certain.
 fn slots_of(p: &Plan, c: usize, e: usize) -> usize
-    requires { ⌜ Fit (now p) c × Fit (now p) e ⌝ }
+    requires { ⌜ InBounds (now p) c × InBounds (now p) e ⌝ }
     ensures { λ r. ⌜ SlotsOf (now (p .entry)) c e r ⌝ }
 {
     plan::cycle(p, c) * plan::cycle(p, e)

@@ -6,11 +6,11 @@ use mathlib.Core.List.{List}
 use lib.ListN.{getD}
 use Rattle.model.specs.Holding.{clashes?}
 use Rattle.num_divisor.specs.Common.{Common}
-use Rattle.plan.specs.Plan.{cycleIn, circuitIn, bookingIn, Fit}
+use Rattle.plan.specs.Plan.{cycleIn, circuitIn, bookingIn, InBounds}
 use Rattle.clash_pair.specs.Differences.{Bad, hitsAny}
 use Rattle.clash_pair.proofs.Hitting.{hits-clashes, no-hits}
 
-module _ (p m : List ℕ) (c e : ℕ) {x y g bad : ℕ} (fit : Fit p c) (is-x : x ≡ cycleIn p c) (is-y : y ≡ cycleIn p e) (common : Common x y g)
+module _ (p m : List ℕ) (c e : ℕ) {x y g bad : ℕ} (fit : InBounds p c) (is-x : x ≡ cycleIn p c) (is-y : y ≡ cycleIn p e) (common : Common x y g)
     (b : Bad g (circuitIn p c .uses) (circuitIn p e .uses) bad) where
   pub pair-is : hitsAny bad g (getD m c 0) (getD m e 0) ≡ clashes? (bookingIn p m c) (bookingIn p m e)
   unfolding bookingIn circuitIn

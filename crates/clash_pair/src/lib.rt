@@ -4,7 +4,7 @@ ghost use Prim.Native.Nat.{_<_};
 ghost use Rattle.model.specs.Sizes.{circuitsMost};
 ghost use Rattle.model.specs.Holding.{clashes?};
 ghost use Rattle.num_divisor.specs.Common.{Cycle};
-ghost use Rattle.plan.specs.Plan.{usesMost, useCount, useIn, circuitIn, bookingIn, Fit};
+ghost use Rattle.plan.specs.Plan.{usesMost, useCount, useIn, circuitIn, bookingIn, InBounds};
 ghost use Rattle.clash_pair.specs.Differences.{MarksUse, Bad, oneHits, hitsAny};
 use plan::Masks;
 use plan::Plan;
@@ -14,7 +14,7 @@ use plan::Plan;
 // Marks the differences at which use k of circuit c meets one of circuit e.
 fn mark_use(p: &Plan, c: usize, k: usize, e: usize, g: usize, from: u32) -> u32
     requires { ⌜ (c < circuitsMost) × (k < usesMost) ⌝ }
-    requires { ⌜ Fit (now p) e ⌝ }
+    requires { ⌜ InBounds (now p) e ⌝ }
     requires { ⌜ Cycle g ⌝ }
     ensures { λ r. ⌜ MarksUse (now (p .entry)) (useIn (now (p .entry)) c k) e (useCount (now (p .entry)) e) g from r ⌝ }
 {
@@ -34,8 +34,8 @@ fn mark_use(p: &Plan, c: usize, k: usize, e: usize, g: usize, from: u32) -> u32
 
 // The differences at which a use of circuit c meets one of circuit e.
 pub fn bad_differences(p: &Plan, c: usize, e: usize, g: usize) -> u32
-    requires { ⌜ Fit (now p) c ⌝ }
-    requires { ⌜ Fit (now p) e ⌝ }
+    requires { ⌜ InBounds (now p) c ⌝ }
+    requires { ⌜ InBounds (now p) e ⌝ }
     requires { ⌜ Cycle g ⌝ }
     ensures { λ r. ⌜ Bad g (circuitIn (now (p .entry)) c .uses) (circuitIn (now (p .entry)) e .uses) r ⌝ }
 {
@@ -86,8 +86,8 @@ fn hits(bad: u32, g: usize, l: u32, m: u32) -> bool
 
 // Whether circuits c and e clash.
 pub fn pair_clashes(p: &Plan, m: &Masks, c: usize, e: usize) -> bool
-    requires { ⌜ Fit (now p) c ⌝ }
-    requires { ⌜ Fit (now p) e ⌝ }
+    requires { ⌜ InBounds (now p) c ⌝ }
+    requires { ⌜ InBounds (now p) e ⌝ }
     ensures { λ r. ⌜ r ≡ clashes? (bookingIn (now (p .entry)) (now (m .entry)) c) (bookingIn (now (p .entry)) (now (m .entry)) e) ⌝ }
 {
     let g = num_divisor::common(plan::cycle(p, c), plan::cycle(p, e));

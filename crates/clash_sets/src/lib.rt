@@ -4,7 +4,7 @@ ghost use mathlib.Core.Bool.{true};
 ghost use Prim.Native.Nat.{_<_};
 ghost use lib.ListN.{length};
 ghost use Rattle.model.specs.Sizes.{circuitsMost};
-ghost use Rattle.plan.specs.Plan.{circuitsIn, useCount, Fit, Usable};
+ghost use Rattle.plan.specs.Plan.{circuitsIn, useCount, InBounds, Usable};
 ghost use Rattle.clash_sets.specs.Sets.{setWords, setsSize, InSet, Grown, Collected, SetsOf, Apart};
 use model::CIRCUITS_MOST;
 use model::RESOURCES_MOST;
@@ -32,7 +32,7 @@ fn put(sets: &mut [u32], c: usize, w: usize)
 
 // Puts what circuit c uses into its set.
 fn collect(p: &Plan, c: usize, sets: &mut [u32])
-    requires { ⌜ Fit (now p) c ⌝ }
+    requires { ⌜ InBounds (now p) c ⌝ }
     requires { ⌜ length (now sets) ≡ setsSize ⌝ }
     ensures grown { λ r. ⌜ Grown (now (sets .entry)) (now (sets .exit)) ⌝ }
     ensures all { λ r. ⌜ Collected (now (p .entry)) (now (sets .exit)) c (useCount (now (p .entry)) c) ⌝ }

@@ -28,21 +28,21 @@ module _ (t : List ℕ) (m i e : ℕ) (inp : Is (lineIn t m .inp) e i) where
 -- ---- entries that are all alike
 
 -- the first i entries of l are x, and it is as long as l₀
-pub record Filled (l₀ l : List ℕ) (x i : ℕ) : Type 0 where
+pub record SetTo (l₀ l : List ℕ) (x i : ℕ) : Type 0 where
   pub long : length l ≡ length l₀
   pub each : (k : ℕ) → k < i → getD l k 0 ≡ x
 
-pub fill-none : (l : List ℕ) (x : ℕ) → Filled l l x 0
+pub fill-none : (l : List ℕ) (x : ℕ) → SetTo l l x 0
 fill-none l x = record { long = refl; each = λ k h. absurd (omega arith) }
 
-pub fill-more : (l₀ l : List ℕ) (x i : ℕ) → i < length l₀ → Filled l₀ l x i → Filled l₀ (set l i x) x (i + 1)
+pub fill-more : (l₀ l : List ℕ) (x i : ℕ) → i < length l₀ → SetTo l₀ l x i → SetTo l₀ (set l i x) x (i + 1)
 fill-more l₀ l x i h f = record { long = length-set l i x ∙ f .long; each = λ k b. pick k b (ℕ-discrete k i) }
   where
     pick : (k : ℕ) → k < i + 1 → Dec (k ≡ i) → getD (set l i x) k 0 ≡ x
     pick k b (yes e) = rw e (getD-set-same l i x 0 (omega (arith, f .long)))
     pick k b (no e) = getD-set-other l i k x 0 e ∙ f .each k (omega arith)
 
-pub fill-all : (l₀ l : List ℕ) (x i : ℕ) → length l₀ ≤ i → Filled l₀ l x i → (k : ℕ) → k < length l₀ → getD l k 0 ≡ x
+pub fill-all : (l₀ l : List ℕ) (x i : ℕ) → length l₀ ≤ i → SetTo l₀ l x i → (k : ℕ) → k < length l₀ → getD l k 0 ≡ x
 fill-all l₀ l x i h f k b = f .each k (omega arith)
 
 -- ---- the chains from m on

@@ -17,7 +17,8 @@ use Rattle.plan.specs.Plan.{sendCount}
 use Rattle.plan_refusal.specs.Found.{found, nothing}
 use Rattle.plan_refusal.specs.declared.Refusal.{Refusal}
 use Rattle.plan_refusal.proofs.Firsts.{nothing-none, told-some}
-use Rattle.line_series.specs.Judging.{hopFault, AllServed}
+use Rattle.line_series.specs.Judging.{hopFault}
+use Rattle.line_served.specs.Serving.{AllServed}
 use Rattle.line_check.specs.Checks.{firstOf, offsetFault, circuitFault}
 
 -- ---- the offsets of a mask: those in `left` are still to come
@@ -52,13 +53,13 @@ module _ (p m t : List ℕ) (lines c : ℕ) where
 -- ---- all offsets of a mask at once, hop by hop
 
 module _ (p m t : List ℕ) (lines c : ℕ) where
-  pub record Served (j : ℕ) : Type 0 where
+  pub record HopsServed (j : ℕ) : Type 0 where
     pub at : (k : ℕ) → k < j → AllServed p (getD m c 0) t lines c k
 
-  pub served-none : Served 0
+  pub served-none : HopsServed 0
   served-none = record { at = λ k h. absurd (omega arith) }
 
-  pub served-more : (j : ℕ) → Served j → AllServed p (getD m c 0) t lines c j → Served (j + 1)
+  pub served-more : (j : ℕ) → HopsServed j → AllServed p (getD m c 0) t lines c j → HopsServed (j + 1)
   served-more j s all = record { at = λ k l. pick k l (decLt k j) }
     where
       pick : (k : ℕ) → k < j + 1 → Dec (k < j) → AllServed p (getD m c 0) t lines c k
@@ -70,7 +71,7 @@ module _ (p m t : List ℕ) (lines c : ℕ) where
   in-none [] f h = refl
   in-none (x ∷ l) f h = rw (h x (List·Memᴰ·head refl)) (in-none l f (λ a i. h a (List·Memᴰ·tail i)))
 
-  pub served-all : (j n : ℕ) → n ≡ sendCount p c → n ≤ j → Served j → circuitFault p m t lines c ≡ none
+  pub served-all : (j n : ℕ) → n ≡ sendCount p c → n ≤ j → HopsServed j → circuitFault p m t lines c ≡ none
   unfolding circuitFault offsetFault
   served-all j n e h s =
       in-none (offsets (getD m c 0)) (offsetFault p t lines c)

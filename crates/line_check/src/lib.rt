@@ -4,7 +4,7 @@ ghost use mathlib.Core.Bool.{true};
 ghost use mathlib.Core.Option.{none};
 ghost use Prim.Native.Nat.{_<_};
 ghost use Rattle.model.specs.Sizes.{cycleMost};
-ghost use Rattle.plan.specs.Plan.{Fit, Usable};
+ghost use Rattle.plan.specs.Plan.{InBounds, Usable};
 ghost use Rattle.plan_refusal.specs.Found.{found};
 ghost use Rattle.line_chains.specs.Chains.{linesIn, Linked};
 ghost use Rattle.line_check.specs.Checks.{offsetFault, circuitFault, LinesFaultIs};
@@ -23,7 +23,7 @@ fn long(x: u32) -> usize
 // The hops of circuit c with offset a.
 fn check_offset(p: &Plan, t: &[u8], ch: &Chains, c: usize, a: usize) -> Refusal
     requires { ⌜ Linked (now t) (now ch) ⌝ }
-    requires { ⌜ Fit (now p) c × (a < cycleMost) ⌝ }
+    requires { ⌜ InBounds (now p) c × (a < cycleMost) ⌝ }
     ensures { λ r. ⌜ found r ≡ offsetFault (now (p .entry)) (now (t .entry)) (linesIn (now (ch .entry))) c a ⌝ }
 {
     let hops = plan::sends(p, c);
@@ -40,12 +40,12 @@ fn check_offset(p: &Plan, t: &[u8], ch: &Chains, c: usize, a: usize) -> Refusal
 // what is wrong, if anything is.
 fn served(p: &Plan, m: &Masks, t: &[u8], ch: &Chains, c: usize) -> bool
     requires { ⌜ Linked (now t) (now ch) ⌝ }
-    requires { ⌜ Fit (now p) c ⌝ }
+    requires { ⌜ InBounds (now p) c ⌝ }
     ensures { λ r. ⌜ (r ≡ true → circuitFault (now (p .entry)) (now (m .entry)) (now (t .entry)) (linesIn (now (ch .entry))) c ≡ none) ⌝ }
 {
     let hops = plan::sends(p, c);
     for k in 0..hops {
-        if !line_series::all_served(p, m, t, ch, c, k) {
+        if !line_served::all_served(p, m, t, ch, c, k) {
             return false;
         }
     }
@@ -55,7 +55,7 @@ fn served(p: &Plan, m: &Masks, t: &[u8], ch: &Chains, c: usize) -> bool
 // The offsets of circuit c, rising.
 fn check_circuit(p: &Plan, m: &Masks, t: &[u8], ch: &Chains, c: usize) -> Refusal
     requires { ⌜ Linked (now t) (now ch) ⌝ }
-    requires { ⌜ Fit (now p) c ⌝ }
+    requires { ⌜ InBounds (now p) c ⌝ }
     ensures { λ r. ⌜ found r ≡ circuitFault (now (p .entry)) (now (m .entry)) (now (t .entry)) (linesIn (now (ch .entry))) c ⌝ }
 {
     if served(p, m, t, ch, c) {

@@ -12,7 +12,7 @@ use Rattle.model.specs.Tests.{upTo, joined, sum}
 use Rattle.model.specs.Bytes.{recordOf}
 use Rattle.model.proofs.Tests.{length-upTo, upTo-same}
 use Rattle.num_mask.specs.Bits.{places, offsets}
-use Rattle.plan.specs.Plan.{circuitsIn, sendCount, Fit}
+use Rattle.plan.specs.Plan.{circuitsIn, sendCount, InBounds}
 use Rattle.file_writer.proofs.Lists.{map-upTo, joined-length, sum-more}
 use Rattle.line_maker.specs.Files.{sendBytes, offsetBytes, circuitBytes, linesSize, tableSize}
 
@@ -31,7 +31,7 @@ offsets-few : (m : ℕ) → length (offsets m) ≤ cycleMost
 unfolding offsets
 offsets-few m = places-few cycleMost 0 m
 
-pub circuit-few : {p : List ℕ} {c : ℕ} → Fit p c → (mask : ℕ) {slots sends : ℕ} → slots ≡ length (offsets mask) → sends ≡ sendCount p c
+pub circuit-few : {p : List ℕ} {c : ℕ} → InBounds p c → (mask : ℕ) {slots sends : ℕ} → slots ≡ length (offsets mask) → sends ≡ sendCount p c
     → slots * sends ≤ cycleMost * hopsMost
 circuit-few f mask is many = mul-le-mul {n₂ = cycleMost} {m₂ = hopsMost} (omega (arith, offsets-few mask)) (omega (arith, f .sends-few))
 

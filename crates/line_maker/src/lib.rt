@@ -3,7 +3,7 @@ ghost use mathlib.Core.Path.{_≡_};
 ghost use Prim.Native.Nat.{_+_, _≤_, _<_};
 ghost use lib.ListN.{length, getD};
 ghost use Rattle.model.specs.Sizes.{headSize, lineSize, cycleMost};
-ghost use Rattle.plan.specs.Plan.{sendCount, Fit, Usable};
+ghost use Rattle.plan.specs.Plan.{sendCount, InBounds, Usable};
 ghost use Rattle.file_writer.specs.Pasting.{pasted, Laid};
 ghost use Rattle.line_maker.specs.Files.{lineRecord, sendBytes, offsetBytes, circuitBytes, tableSize, WroteTable};
 use model::HEAD_SIZE;
@@ -43,7 +43,7 @@ pub fn table_size(p: &Plan, m: &Masks) -> usize
 
 // The line of send j of circuit c with offset a; and the place behind it.
 fn put_send(p: &Plan, c: usize, a: u32, j: usize, out: &mut [u8], at: usize) -> usize
-    requires { ⌜ Fit (now p) c × (a < cycleMost) × (j < sendCount (now p) c) ⌝ }
+    requires { ⌜ InBounds (now p) c × (a < cycleMost) × (j < sendCount (now p) c) ⌝ }
     requires { ⌜ at + (headSize + lineSize) ≤ length (now out) ⌝ }
     ensures { λ r. ⌜ Laid (now (out .entry)) at (sendBytes (now (p .entry)) c a j) (now (out .exit)) r ⌝ }
 {
@@ -64,7 +64,7 @@ fn put_send(p: &Plan, c: usize, a: u32, j: usize, out: &mut [u8], at: usize) -> 
 
 // The lines of offset a: send by send.
 fn put_sends(p: &Plan, c: usize, a: u32, out: &mut [u8], at: usize) -> usize
-    requires { ⌜ Fit (now p) c × (a < cycleMost) ⌝ }
+    requires { ⌜ InBounds (now p) c × (a < cycleMost) ⌝ }
     requires { ⌜ at + length (offsetBytes (now p) c a) ≤ length (now out) ⌝ }
     ensures { λ r. ⌜ Laid (now (out .entry)) at (offsetBytes (now (p .entry)) c a) (now (out .exit)) r ⌝ }
 {
@@ -78,7 +78,7 @@ fn put_sends(p: &Plan, c: usize, a: u32, out: &mut [u8], at: usize) -> usize
 
 // The lines of circuit c: offset by offset, rising.
 fn put_circuit(p: &Plan, m: &Masks, c: usize, out: &mut [u8], at: usize) -> usize
-    requires { ⌜ Fit (now p) c ⌝ }
+    requires { ⌜ InBounds (now p) c ⌝ }
     requires { ⌜ at + length (circuitBytes (now p) c (getD (now m) c 0)) ≤ length (now out) ⌝ }
     ensures { λ r. ⌜ Laid (now (out .entry)) at (circuitBytes (now (p .entry)) c (getD (now (m .entry)) c 0)) (now (out .exit)) r ⌝ }
 {

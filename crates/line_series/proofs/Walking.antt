@@ -158,14 +158,14 @@ module _ (t : List ℕ) (lines port cycle start : ℕ) where
   again-has j e = and-false _ _ (meet-has j e)
 
   -- the walk stands at line m of the chain
-  pub record Going (one part two m : ℕ) : Type 0 where
+  pub record Looking (one part two m : ℕ) : Type 0 where
     pub high : m ≤ lines
     pub on : m < lines → has t port m ≡ true
     pub one-is : one ≡ seen lines meet m
     pub part-is : part ≡ seen lines part? m
     pub two-is : two ≡ seen lines again m
 
-  pub going-none : (ch : List ℕ) (m : ℕ) → Linked t ch → lines ≡ linesIn ch → port < resourcesMost → m ≡ firstIn ch port → Going lines lines lines m
+  pub going-none : (ch : List ℕ) (m : ℕ) → Linked t ch → lines ≡ linesIn ch → port < resourcesMost → m ≡ firstIn ch port → Looking lines lines lines m
   going-none ch m linked n h e = record {
     high = x .high;
     on = x .found;
@@ -184,7 +184,7 @@ module _ (t : List ℕ) (lines port cycle start : ℕ) where
     pub held-here : (ch : List ℕ) → Linked t ch → lines ≡ linesIn ch → Cycle cycle → Held t m cycle
     held-here ch linked n good = record { few = omega (arith, linked .tabled .few); cycle-good = good; period-good = linked .tabled .period m (rw n at low); slot-good = linked .tabled .slot m (rw n at low) }
 
-    module _ (ch : List ℕ) (linked : Linked t ch) (n : lines ≡ linesIn ch) (g : Going one part two m) (m′ : ℕ) (e : m′ ≡ afterIn ch m) where
+    module _ (ch : List ℕ) (linked : Linked t ch) (n : lines ≡ linesIn ch) (g : Looking one part two m) (m′ : ℕ) (e : m′ ≡ afterIn ch m) where
       link-next : Next lines (has t port) (suc m) m′
       link-next = rw n (at-next port linked (rw n at low) (g .on low) e)
 
@@ -207,7 +207,7 @@ module _ (t : List ℕ) (lines port cycle start : ℕ) where
 
       pub going-on : (meets whole : Bool) (one′ part′ two′ : ℕ) → meets ≡ agreesOf t cycle start m → whole ≡ coversOf t cycle start m
           → two′ ≡ noted lines two m (meets and ltb one lines) → part′ ≡ noted lines part m (meets and not whole) → one′ ≡ noted lines one m (meets and true)
-          → Going one′ part′ two′ m′
+          → Looking one′ part′ two′ m′
       going-on meets whole one′ part′ two′ me we e₂ ep e₁ = record {
         high = x .high;
         on = x .found;
@@ -223,7 +223,7 @@ module _ (t : List ℕ) (lines port cycle start : ℕ) where
           is = meets-is meets me
 
       -- a line that does not meet the series changes nothing
-      pub going-past : (meets : Bool) → meets ≡ agreesOf t cycle start m → not meets ≡ true → Going one part two m′
+      pub going-past : (meets : Bool) → meets ≡ agreesOf t cycle start m → not meets ≡ true → Looking one part two m′
       going-past meets me other =
           let missed : meets ≡ false = not-true meets other in
           going-on meets (coversOf t cycle start m) one part two me refl
@@ -231,7 +231,7 @@ module _ (t : List ℕ) (lines port cycle start : ℕ) where
           (note-missed lines part m meets (not (coversOf t cycle start m)) missed)
           (note-missed lines one m meets true missed)
 
-  pub going-all : (n one part two m : ℕ) → lines ≡ n → lines ≤ m → Going one part two m → record { one = one; part = part; two = two } ≡ metBy t n port cycle start
+  pub going-all : (n one part two m : ℕ) → lines ≡ n → lines ≤ m → Looking one part two m → record { one = one; part = part; two = two } ≡ metBy t n port cycle start
   unfolding metBy oneOf
   going-all n one part two m is h g =
       let e : m ≡ lines = omega (arith, g .high) in

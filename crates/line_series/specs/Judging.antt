@@ -1,17 +1,15 @@
 -- The lines that meet a series, over the bytes of a table file: which they are, and what is told of the series. Assumes nothing: these are definitions.
-use Prim.Native.Nat.{ℕ, _+_, _%_, _≤_, _<_}
-use mathlib.Core.Path.{_≡_}
-use mathlib.Core.Bool.{Bool, true, cond}
+use Prim.Native.Nat.{ℕ, _+_, _%_, _<_}
+use mathlib.Core.Bool.{Bool, cond}
 use mathlib.Core.List.{List}
 use mathlib.Core.Option.{Option, none}
 use lib.Dec.{ltb, eqb}
-use Rattle.model.specs.Sizes.{linesMost, cycleMost}
+use Rattle.model.specs.Sizes.{linesMost}
 use Rattle.model.specs.Divisor.{gcd}
 use Rattle.model.specs.Tests.{_and_, neg, least, given, _else_}
 use Rattle.model.specs.declared.Answer.{Answer}
 use Rattle.model.specs.declared.Answer.the-variants.{Unserved, Partly, Twice, Astray}
 use Rattle.num_divisor.specs.Common.{Cycle}
-use Rattle.num_mask.specs.Bits.{bit}
 use Rattle.plan.specs.Plan.{cycleIn, portIn, outIn, sentIn}
 use Rattle.line_chains.specs.Chains.{lineIn, has}
 use Rattle.line_series.specs.declared.Met.{Met}
@@ -77,14 +75,3 @@ faultAt t lines port cycle start out c a j =
 -- of hop j of circuit c of a plan, with offset a
 unfoldable pub hopFault : (p t : List ℕ) (lines c a j : ℕ) → Option Answer
 hopFault p t lines c a j = faultAt t lines (portIn p c j) (cycleIn p c) (a + sentIn p c j) (outIn p c j) c a j
-
--- x has the offsets of a mask modulo g, where g is not 0
-pub record Folds (mask g x : ℕ) : Type 0 where
-  pub has-all : 1 ≤ g → (a : ℕ) → a < cycleMost → bit mask a ≡ true → bit x (a % g) ≡ true
-
--- no series of the offsets of a mask has a fault, where it comes to the port so long after its offset, whatever its name is
-pub record Served (t : List ℕ) (lines port cycle after out mask : ℕ) : Type 0 where
-  pub each : (a : ℕ) → bit mask a ≡ true → (c j : ℕ) → faultAt t lines port cycle (a + after) out c a j ≡ none
-
-pub record AllServed (p : List ℕ) (mask : ℕ) (t : List ℕ) (lines c j : ℕ) : Type 0 where
-  pub each : (a : ℕ) → bit mask a ≡ true → hopFault p t lines c a j ≡ none

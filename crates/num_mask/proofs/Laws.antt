@@ -102,19 +102,19 @@ places-length (suc k) s m h =
 
 -- ---- the first: the lowest set bit of m, at t, and then the places of m without it
 
-pub record First (k s m t : ℕ) : Type 0 where
+pub record FirstPlace (k s m t : ℕ) : Type 0 where
   pub inside : t < k
   pub least : 2 ^ t ≤ m
   pub parts : places k s m ≡ (s + t) ∷ places k s (m - 2 ^ t)
 
-first-odd : (k s m t : ℕ) → t ≡ 0 → m % 2 ≡ 1 → First (suc k) s m t
+first-odd : (k s m t : ℕ) → t ≡ 0 → m % 2 ≡ 1 → FirstPlace (suc k) s m t
 unfolding places
 first-odd k s m t z e =
     let low : (m - 1) % 2 ≡ 0 = omega arith in
     let high : (m - 1) / 2 ≡ m / 2 = omega arith in
     rw z (record { inside = zero-lt-suc k; least = omega arith; parts = rw (e, low, high, add-zero s) })
 
-first-even : (k s m t u : ℕ) → t ≡ suc u → m % 2 ≡ 0 → First k (suc s) (m / 2) u → First (suc k) s m t
+first-even : (k s m t u : ℕ) → t ≡ suc u → m % 2 ≡ 0 → FirstPlace k (suc s) (m / 2) u → FirstPlace (suc k) s m t
 unfolding places
 first-even k s m t u z e f =
     let twice : 2 ^ suc u ≡ 2 ^ u * 2 = pow-suc 2 u in
@@ -128,7 +128,7 @@ first-even k s m t u z e f =
       parts = rw (e, low, high) (f .parts ∙ ap (λ (n : ℕ). n ∷ places k (suc s) (m / 2 - 2 ^ u)) (omega arith));
     })
 
-pub places-first : (k s m : ℕ) → m < 2 ^ k → 0 < m → First k s m (trailingZeros k m)
+pub places-first : (k s m : ℕ) → m < 2 ^ k → 0 < m → FirstPlace k s m (trailingZeros k m)
 unfolding trailingZeros
 places-first zero s m h p = absurd (omega (arith, lt-one h))
 places-first (suc k) s m h p = go (m % 2) refl (λ ev. places-first k (suc s) (m / 2) (half-lt k h) (omega arith))
@@ -136,7 +136,7 @@ places-first (suc k) s m h p = go (m % 2) refl (λ ev. places-first k (suc s) (m
     t : ℕ
     t = trailingZeros k (m / 2)
 
-    go : (d : ℕ) → m % 2 ≡ d → (m % 2 ≡ 0 → First k (suc s) (m / 2) t) → First (suc k) s m (under (m % 2) t)
+    go : (d : ℕ) → m % 2 ≡ d → (m % 2 ≡ 0 → FirstPlace k (suc s) (m / 2) t) → FirstPlace (suc k) s m (under (m % 2) t)
     go zero e rest = first-even k s m (under (m % 2) t) t (ap (λ (d : ℕ). under d t) e) e (rest e)
     go (suc zero) e rest = first-odd k s m (under (m % 2) t) (ap (λ (d : ℕ). under d t) e) e
     go (suc (suc d)) e rest = absurd (omega arith)
@@ -244,7 +244,7 @@ pub offsets-first : (m : ℕ) → m < 2 ^ cycleMost → 0 < m → Lowest m (trai
 unfolding offsets
 offsets-first m h p =
     let t = trailingZeros cycleMost m in
-    let f : First cycleMost 0 m t = places-first cycleMost 0 m h p in
+    let f : FirstPlace cycleMost 0 m t = places-first cycleMost 0 m h p in
     record {
       inside = f .inside;
       least = f .least;

@@ -11,7 +11,7 @@ use Rattle.model.specs.Holding.{booking}
 use Rattle.model.proofs.Tests.{length-upTo, getD-upTo}
 use Rattle.model.specs.Sound.{SoundPath}
 use Rattle.model.proofs.Sound.{after-low, hop-small}
-use Rattle.plan.specs.Plan.{circuitsIn, cycleIn, demandIn, useCount, sendCount, routerIn, sentIn, portOf, portIn, Planned, useIn, sendIn, circuitIn, bookingIn, planned, Stands, Booked, Fit, Usable}
+use Rattle.plan.specs.Plan.{circuitsIn, cycleIn, demandIn, useCount, sendCount, routerIn, sentIn, portOf, portIn, CircuitPlan, useIn, sendIn, circuitIn, bookingIn, planned, Stands, Booked, InBounds, Usable}
 
 -- ---- ports
 
@@ -37,25 +37,25 @@ module _ {q : Request} {p : List ℕ} (s : Stands q p) {c : ℕ} (h : c < circui
 
   pub cycle-is : cycleIn p c ≡ circuitOf q c .cycle
   unfolding circuitIn planned
-  cycle-is = ap (λ (x : Planned). x .cycle) (s .each c h)
+  cycle-is = ap (λ (x : CircuitPlan). x .cycle) (s .each c h)
 
   pub demand-is : demandIn p c ≡ circuitOf q c .demand
   unfolding circuitIn planned
-  demand-is = ap (λ (x : Planned). x .demand) (s .each c h)
+  demand-is = ap (λ (x : CircuitPlan). x .demand) (s .each c h)
 
   pub use-count-is : useCount p c ≡ suc (hops (circuitOf q c))
   unfolding circuitIn
-  use-count-is = sym (length-upTo (useCount p c) (useIn p c)) ∙ ap (λ (x : Planned). length (x .uses)) (s .each c h) ∙ uses-are q c
+  use-count-is = sym (length-upTo (useCount p c) (useIn p c)) ∙ ap (λ (x : CircuitPlan). length (x .uses)) (s .each c h) ∙ uses-are q c
 
   pub send-count-is : sendCount p c ≡ hops (circuitOf q c)
   unfolding circuitIn planned
-  send-count-is = sym (length-upTo (sendCount p c) (sendIn p c)) ∙ ap (λ (x : Planned). length (x .sends)) (s .each c h) ∙ length-upTo (hops (circuitOf q c)) _
+  send-count-is = sym (length-upTo (sendCount p c) (sendIn p c)) ∙ ap (λ (x : CircuitPlan). length (x .sends)) (s .each c h) ∙ length-upTo (hops (circuitOf q c)) _
 
   pub send-is : (j : ℕ) → j < sendCount p c → sendIn p c j ≡ send (q .network) (circuitOf q c) j
   unfolding circuitIn planned
   send-is j l =
       let none : Send = record { router = 0; inp = 0; out = 0; after = 0 } in
-      sym (getD-upTo (sendCount p c) (sendIn p c) j none l) ∙ ap (λ (x : Planned). getD (x .sends) j none) (s .each c h)
+      sym (getD-upTo (sendCount p c) (sendIn p c) j none l) ∙ ap (λ (x : CircuitPlan). getD (x .sends) j none) (s .each c h)
       ∙ getD-upTo (hops (circuitOf q c)) _ j none (omega (arith, send-count-is))
 
   pub port-is : (j : ℕ) → j < sendCount p c → portIn p c j ≡ portOf (send (q .network) (circuitOf q c) j .router) (send (q .network) (circuitOf q c) j .inp)
@@ -77,7 +77,7 @@ module _ {q : Request} {p : List ℕ} (s : Stands q p) {c : ℕ} (h : c < circui
   unfolding sendIn send
   sent-is j l = ap (λ (x : Send). x .after) (send-is j l)
 
-  fit : Fit p c
+  fit : InBounds p c
   fit = record {
     listed = omega (arith, listed, s .sound .circuits);
     cycle = rw cycle-is (record { low = path .cycle; high = path .short });
@@ -96,4 +96,4 @@ usable s = record { few = omega (arith, s .many, s .sound .circuits); fit = λ c
 
 pub booking-is : {q : Request} {assigned : List (List ℕ)} {p m : List ℕ} → Booked q assigned p m → {c : ℕ} → c < circuitsIn p → bookingIn p m c ≡ booking q assigned c
 unfolding bookingIn booking circuitIn planned
-booking-is b {c} h = ap₂ (λ (x : Planned) (os : List ℕ). record { cycle = x .cycle; uses = x .uses; offsets = os }) (b .stands .each c h) (b .taken c h)
+booking-is b {c} h = ap₂ (λ (x : CircuitPlan) (os : List ℕ). record { cycle = x .cycle; uses = x .uses; offsets = os }) (b .stands .each c h) (b .taken c h)

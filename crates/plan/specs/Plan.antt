@@ -1,6 +1,7 @@
 -- How an array of numbers stands for the circuits of a request, and masks for their offsets. Assumes nothing: these are definitions.
 use Prim.Native.Nat.{ℕ, suc, _+_, _*_, _^_, _≤_, _<_}
 use mathlib.Core.Path.{_≡_}
+use mathlib.Core.Logic.{_⊎_}
 use mathlib.Core.Bool.{cond}
 use mathlib.Core.List.{List}
 use lib.ListN.{length, getD}
@@ -28,41 +29,66 @@ circuitSize = sendsAt + 4 * hopsMost
 abbrev pub planSize : ℕ
 planSize = 1 + circuitSize * circuitsMost
 
+-- where circuit c begins, its use k and its send j
+abbrev pub circuitAt : ℕ → ℕ
+circuitAt c = 1 + c * circuitSize
+
+abbrev pub useAt : ℕ → ℕ → ℕ
+useAt c k = circuitAt c + 4 + k * 2
+
+abbrev pub sendAt : ℕ → ℕ → ℕ
+sendAt c j = circuitAt c + sendsAt + j * 4
+
 module _ (p : List ℕ) where
   abbrev pub circuitsIn : ℕ
   circuitsIn = getD p 0 0
 
   module _ (c : ℕ) where
     abbrev pub cycleIn : ℕ
-    cycleIn = getD p (1 + c * circuitSize) 0
+    cycleIn = getD p (circuitAt c) 0
 
     abbrev pub demandIn : ℕ
-    demandIn = getD p (1 + c * circuitSize + 1) 0
+    demandIn = getD p (circuitAt c + 1) 0
 
     abbrev pub useCount : ℕ
-    useCount = getD p (1 + c * circuitSize + 2) 0
+    useCount = getD p (circuitAt c + 2) 0
 
     abbrev pub sendCount : ℕ
-    sendCount = getD p (1 + c * circuitSize + 3) 0
+    sendCount = getD p (circuitAt c + 3) 0
 
     module _ (k : ℕ) where
       abbrev pub whatIn : ℕ
-      whatIn = getD p (1 + c * circuitSize + 4 + k * 2) 0
+      whatIn = getD p (useAt c k) 0
 
       abbrev pub afterIn : ℕ
-      afterIn = getD p (1 + c * circuitSize + 4 + k * 2 + 1) 0
+      afterIn = getD p (useAt c k + 1) 0
 
       abbrev pub routerIn : ℕ
-      routerIn = getD p (1 + c * circuitSize + sendsAt + k * 4) 0
+      routerIn = getD p (sendAt c k) 0
 
       abbrev pub inpIn : ℕ
-      inpIn = getD p (1 + c * circuitSize + sendsAt + k * 4 + 1) 0
+      inpIn = getD p (sendAt c k + 1) 0
 
       abbrev pub outIn : ℕ
-      outIn = getD p (1 + c * circuitSize + sendsAt + k * 4 + 2) 0
+      outIn = getD p (sendAt c k + 2) 0
 
       abbrev pub sentIn : ℕ
-      sentIn = getD p (1 + c * circuitSize + sendsAt + k * 4 + 3) 0
+      sentIn = getD p (sendAt c k + 3) 0
+
+-- two numbers were stored from a place on, and nothing else; four were
+pub record Two (old : List ℕ) (at x y : ℕ) (new : List ℕ) : Type 0 where
+  pub long : length new ≡ length old
+  pub one : getD new at 0 ≡ x
+  pub two : getD new (at + 1) 0 ≡ y
+  pub kept : (i : ℕ) → (i < at) ⊎ (at + 2 ≤ i) → getD new i 0 ≡ getD old i 0
+
+pub record Four (old : List ℕ) (at x y z w : ℕ) (new : List ℕ) : Type 0 where
+  pub long : length new ≡ length old
+  pub one : getD new at 0 ≡ x
+  pub two : getD new (at + 1) 0 ≡ y
+  pub three : getD new (at + 2) 0 ≡ z
+  pub four : getD new (at + 3) 0 ≡ w
+  pub kept : (i : ℕ) → (i < at) ⊎ (at + 4 ≤ i) → getD new i 0 ≡ getD old i 0
 
 -- ---- what the numbers say
 
@@ -74,7 +100,7 @@ abbrev pub portIn : List ℕ → ℕ → ℕ → ℕ
 portIn p c j = portOf (routerIn p c j) (inpIn p c j)
 
 -- a circuit of a plan
-pub record Planned : Type 0 where
+pub record CircuitPlan : Type 0 where
   pub cycle : ℕ
   pub demand : ℕ
   pub uses : List Use
@@ -86,7 +112,7 @@ useIn p c k = record { what = whatIn p c k; after = afterIn p c k }
 unfoldable pub sendIn : List ℕ → ℕ → ℕ → Send
 sendIn p c j = record { router = routerIn p c j; inp = inpIn p c j; out = outIn p c j; after = sentIn p c j }
 
-unfoldable pub circuitIn : List ℕ → ℕ → Planned
+unfoldable pub circuitIn : List ℕ → ℕ → CircuitPlan
 circuitIn p c = record { cycle = cycleIn p c; demand = demandIn p c; uses = upTo (useCount p c) (useIn p c); sends = upTo (sendCount p c) (sendIn p c) }
 
 -- what circuit c claims with the offsets of its mask
@@ -95,7 +121,7 @@ bookingIn p m c = record { cycle = cycleIn p c; uses = upTo (useCount p c) (useI
 
 -- ---- what the request says
 
-unfoldable pub planned : Request → ℕ → Planned
+unfoldable pub planned : Request → ℕ → CircuitPlan
 planned q c =
     let x = circuitOf q c in
     record { cycle = x .cycle; demand = x .demand; uses = uses (q .network) x; sends = upTo (hops x) (send (q .network) x) }
@@ -114,7 +140,7 @@ pub record Booked (q : Request) (assigned : List (List ℕ)) (p m : List ℕ) : 
 -- ---- what the code asks
 
 -- the numbers of circuit c are in their bounds
-pub record Fit (p : List ℕ) (c : ℕ) : Type 0 where
+pub record InBounds (p : List ℕ) (c : ℕ) : Type 0 where
   pub listed : c < circuitsMost
   pub cycle : Cycle (cycleIn p c)
   pub demand : demandIn p c ≤ cycleIn p c
@@ -127,7 +153,7 @@ pub record Fit (p : List ℕ) (c : ℕ) : Type 0 where
 -- those of all circuits are
 pub record Usable (p : List ℕ) : Type 0 where
   pub few : circuitsIn p ≤ circuitsMost
-  pub fit : (c : ℕ) → c < circuitsIn p → Fit p c
+  pub fit : (c : ℕ) → c < circuitsIn p → InBounds p c
 
 -- and their offsets are below their cycles
 pub record Slotted (p m : List ℕ) : Type 0 where

@@ -1,5 +1,5 @@
--- Laws behind putting a request into a plan: a few numbers stored, the hops of a circuit, and the circuits one after the other. Assumes nothing.
-use Prim.Native.Nat.{ℕ, suc, _+_, _*_, _≤_, _<_}
+-- Laws behind putting a request into a plan: the hops of a circuit, and the circuits one after the other. Assumes nothing.
+use Prim.Native.Nat.{ℕ, suc, _+_, _≤_, _<_}
 use mathlib.Core.Path.{_≡_, refl, sym, ap, ap₂, _∙_}
 use mathlib.Core.Logic.{_⊎_, inl, inr}
 use mathlib.Core.List.{List, _∷_}
@@ -7,7 +7,7 @@ use native.Mathlib.Numerals.{add-one}
 use native.Mathlib.Decide.{decLt}
 use native.Mathlib.Omega.{arith}
 use lib.ListN.{length, getD, set, length-set}
-use lib.Seq.{getD-set-same, getD-set-other}
+use lib.Seq.{getD-set-same}
 use Rattle.model.specs.Sizes.{inportOf, hopsMost}
 use Rattle.model.specs.Tests.{upTo}
 use Rattle.model.specs.Network.{Request, Circuit, Use, Send, uses, hopUse, send, inport, after, hops, hop, circuitOf, fromRouter}
@@ -17,42 +17,8 @@ use Rattle.model.specs.Sound.{SoundRequest}
 use Rattle.model.proofs.Sound.{after-first, after-next}
 use Rattle.model.proofs.Readers.{request-sound}
 use Rattle.file_parts.specs.Parts.{Starts, CycleIs, DemandIs, HopsIs, HopIs, FromIs}
-use Rattle.plan.specs.Plan.{usesMost, sendsAt, circuitSize, circuitsIn, cycleIn, demandIn, useCount, sendCount, Planned, useIn, sendIn, circuitIn, planned, planSize, Stands}
-use Rattle.plan_fill.specs.Loading.{Two, Four, Written}
-
--- ---- a few numbers
-
-pub two-put : {old : List ℕ} {at x y v w : ℕ} → at + 2 ≤ length old → v ≡ x → w ≡ y → Two old at x y (set (set old at v) (at + 1) w)
-two-put {old} {at} {x} {y} {v} {w} h ev ew = record {
-  long = length-set mid (at + 1) w ∙ length-set old at v;
-  one = getD-set-other mid (at + 1) at w 0 (λ e. omega arith) ∙ getD-set-same old at v 0 (omega arith) ∙ ev;
-  two = getD-set-same mid (at + 1) w 0 (omega (arith, length-set old at v)) ∙ ew;
-  kept = kept;
-}
-  where
-    mid : List ℕ
-    mid = set old at v
-
-    kept : (i : ℕ) → (i < at) ⊎ (at + 2 ≤ i) → getD (set mid (at + 1) w) i 0 ≡ getD old i 0
-    kept i (inl l) = getD-set-other mid (at + 1) i w 0 (λ e. omega arith) ∙ getD-set-other old at i v 0 (λ e. omega arith)
-    kept i (inr l) = getD-set-other mid (at + 1) i w 0 (λ e. omega arith) ∙ getD-set-other old at i v 0 (λ e. omega arith)
-
-pub four-put : {old mid new : List ℕ} {at x y z w : ℕ} → Two old at x y mid → Two mid (at + 2) z w new → Four old at x y z w new
-four-put {old} {mid} {new} {at} {x} {y} {z} {w} a b = record {
-  long = b .long ∙ a .long;
-  one = b .kept at (inl (omega arith)) ∙ a .one;
-  two = b .kept (at + 1) (inl (omega arith)) ∙ a .two;
-  three = b .one;
-  four = ap (λ i. getD new i 0) three ∙ b .two;
-  kept = kept;
-}
-  where
-    three : at + 3 ≡ at + 2 + 1
-    three = omega arith
-
-    kept : (i : ℕ) → (i < at) ⊎ (at + 4 ≤ i) → getD new i 0 ≡ getD old i 0
-    kept i (inl l) = b .kept i (inl (omega arith)) ∙ a .kept i (inl l)
-    kept i (inr l) = b .kept i (inr (omega arith)) ∙ a .kept i (inr (omega arith))
+use Rattle.plan.specs.Plan.{usesMost, circuitSize, circuitAt, useAt, sendAt, Two, Four, circuitsIn, cycleIn, demandIn, useCount, sendCount, CircuitPlan, useIn, sendIn, circuitIn, planned, planSize, Stands}
+use Rattle.plan_fill.specs.Loading.{CircuitWritten}
 
 -- ---- a circuit
 
@@ -73,11 +39,11 @@ pub record Writing (q : Request) (c j : ℕ) (old new : List ℕ) : Type 0 where
   pub first : useIn new c 0 ≡ getD (uses (q .network) (circuitOf q c)) 0 noUse
   pub uses-in : (i : ℕ) → i < j → useIn new c (suc i) ≡ hopUse (q .network) (circuitOf q c) i
   pub sends-in : (i : ℕ) → i < j → sendIn new c i ≡ send (q .network) (circuitOf q c) i
-  pub kept : (i : ℕ) → (i < 1 + c * circuitSize) ⊎ (1 + c * circuitSize + circuitSize ≤ i) → getD new i 0 ≡ getD old i 0
+  pub kept : (i : ℕ) → (i < circuitAt c) ⊎ (circuitAt c + circuitSize ≤ i) → getD new i 0 ≡ getD old i 0
 
 module _ {q : Request} {c : ℕ} {old mid new : List ℕ} where
   pub writing-none : {cycle demand n first owner : ℕ} → CycleIs q c cycle → DemandIs q c demand → HopsIs q c n → HopIs q c 0 first → FromIs q first owner
-      → Four old (1 + c * circuitSize) cycle demand (n + 1) n mid → Two mid (1 + c * circuitSize + 4) (inportOf owner) 0 new → Writing q c 0 old new
+      → Four old (circuitAt c) cycle demand (n + 1) n mid → Two mid (useAt c 0) (inportOf owner) 0 new → Writing q c 0 old new
   unfolding useIn uses
   writing-none {cycle} {demand} {n} {first} {owner} cy de ho hi fr a b = record {
     long = b .long ∙ a .long;
@@ -86,27 +52,21 @@ module _ {q : Request} {c : ℕ} {old mid new : List ℕ} where
     use-count = b .kept _ (inl (omega arith)) ∙ a .three ∙ ap (λ k. k + 1) (ho .is);
     send-count = b .kept _ (inl (omega arith)) ∙ a .four ∙ ho .is;
     first = ap₂ (λ w t. record { what = w; after = t })
-        (ap (λ i. getD new i 0) at-first ∙ b .one ∙ ap inportOf (fr .is ∙ ap (λ x. fromRouter (q .network) x) (hi .is)))
-        (ap (λ i. getD new i 0) at-second ∙ b .two ∙ sym (after-first (q .network) (circuitOf q c)));
+        (b .one ∙ ap inportOf (fr .is ∙ ap (λ x. fromRouter (q .network) x) (hi .is)))
+        (b .two ∙ sym (after-first (q .network) (circuitOf q c)));
     uses-in = λ i h. absurd (omega arith);
     sends-in = λ i h. absurd (omega arith);
     kept = kept;
   }
     where
-      at-first : 1 + c * circuitSize + 4 + 0 * 2 ≡ 1 + c * circuitSize + 4
-      at-first = omega arith
-
-      at-second : 1 + c * circuitSize + 4 + 0 * 2 + 1 ≡ 1 + c * circuitSize + 4 + 1
-      at-second = omega arith
-
-      kept : (i : ℕ) → (i < 1 + c * circuitSize) ⊎ (1 + c * circuitSize + circuitSize ≤ i) → getD new i 0 ≡ getD old i 0
+      kept : (i : ℕ) → (i < circuitAt c) ⊎ (circuitAt c + circuitSize ≤ i) → getD new i 0 ≡ getD old i 0
       kept i (inl l) = b .kept i (inl (omega arith)) ∙ a .kept i (inl l)
       kept i (inr l) = b .kept i (inr (omega arith)) ∙ a .kept i (inr (omega arith))
 
   -- hop j: its buffer is used, and its router sends
   module _ {j buffer router inp late : ℕ} (few : j < hops (circuitOf q c)) (room : hops (circuitOf q c) ≤ hopsMost) (hi : HopIs q c j buffer) (fr : FromIs q buffer router) (is-inp : inp ≡ inport (circuitOf q c) j)
       (is-late : late ≡ after (q .network) (circuitOf q c) j)
-      (a : Two old (1 + c * circuitSize + 4 + (j + 1) * 2) buffer late mid) (b : Four mid (1 + c * circuitSize + sendsAt + j * 4) router inp buffer late new) where
+      (a : Two old (useAt c (j + 1)) buffer late mid) (b : Four mid (sendAt c j) router inp buffer late new) where
     -- the other uses and sends stay
     use-stays : (i : ℕ) → i < suc j → useIn new c i ≡ useIn old c i
     unfolding useIn
@@ -120,10 +80,10 @@ module _ {q : Request} {c : ℕ} {old mid new : List ℕ} where
         (b .kept _ (inl (omega arith)) ∙ ap (λ i. getD mid i 0) at-use ∙ a .one ∙ hi .is)
         (b .kept _ (inl (omega arith)) ∙ ap (λ i. getD mid i 0) at-after ∙ a .two ∙ is-late)
       where
-        at-use : 1 + c * circuitSize + 4 + suc j * 2 ≡ 1 + c * circuitSize + 4 + (j + 1) * 2
+        at-use : useAt c (suc j) ≡ useAt c (j + 1)
         at-use = omega arith
 
-        at-after : 1 + c * circuitSize + 4 + suc j * 2 + 1 ≡ 1 + c * circuitSize + 4 + (j + 1) * 2 + 1
+        at-after : useAt c (suc j) + 1 ≡ useAt c (j + 1) + 1
         at-after = omega arith
 
     send-stays : (i : ℕ) → i < j → sendIn new c i ≡ sendIn old c i
@@ -138,7 +98,7 @@ module _ {q : Request} {c : ℕ} {old mid new : List ℕ} where
     unfolding sendIn send
     send-new = send-by (b .one ∙ fr .is ∙ ap (λ x. fromRouter (q .network) x) (hi .is)) (b .two ∙ is-inp) (b .three ∙ hi .is) (b .four ∙ is-late)
 
-    head-stays : (k : ℕ) → k < 4 → getD new (1 + c * circuitSize + k) 0 ≡ getD old (1 + c * circuitSize + k) 0
+    head-stays : (k : ℕ) → k < 4 → getD new (circuitAt c + k) 0 ≡ getD old (circuitAt c + k) 0
     head-stays k h = b .kept _ (inl (omega arith)) ∙ a .kept _ (inl (omega arith))
 
     pub writing-more : (before : List ℕ) → Writing q c j before old → Writing q c (j + 1) before new
@@ -162,7 +122,7 @@ module _ {q : Request} {c : ℕ} {old mid new : List ℕ} where
         send-at i h (yes l) = send-stays i l ∙ w .sends-in i l
         send-at i h (no l) = let e : i ≡ j = omega arith in rw e send-new
 
-        kept : (i : ℕ) → (i < 1 + c * circuitSize) ⊎ (1 + c * circuitSize + circuitSize ≤ i) → getD new i 0 ≡ getD before i 0
+        kept : (i : ℕ) → (i < circuitAt c) ⊎ (circuitAt c + circuitSize ≤ i) → getD new i 0 ≡ getD before i 0
         kept i (inl l) = b .kept i (inl (omega arith)) ∙ a .kept i (inl (omega arith)) ∙ w .kept i (inl l)
         kept i (inr l) = b .kept i (inr (omega arith)) ∙ a .kept i (inr (omega arith)) ∙ w .kept i (inr l)
 
@@ -173,7 +133,7 @@ module _ {q : Request} {c : ℕ} {old mid new : List ℕ} where
     unfolding inport
     inp-next = rw (add-one j) (hi .is)
 
-pub writing-all : {q : Request} {c j n : ℕ} {old new : List ℕ} → HopsIs q c n → n ≤ j → Writing q c j old new → Written q c old new
+pub writing-all : {q : Request} {c j n : ℕ} {old new : List ℕ} → HopsIs q c n → n ≤ j → Writing q c j old new → CircuitWritten q c old new
 unfolding circuitIn planned uses upTo
 writing-all {q} {c} {j} {n} {old} {new} ho h w = record { long = w .long; is = is; kept = w .kept }
   where
@@ -191,18 +151,18 @@ writing-all {q} {c} {j} {n} {old} {new} ho h w = record { long = w .long; is = i
 
 -- ---- all circuits
 
-module _ {q : Request} (sound : SoundRequest q) {c : ℕ} {old new : List ℕ} (w : Written q c old new) {e : ℕ} (low : e < c) (listed : e < length (q .circuits))
+module _ {q : Request} (sound : SoundRequest q) {c : ℕ} {old new : List ℕ} (w : CircuitWritten q c old new) {e : ℕ} (low : e < c) (listed : e < length (q .circuits))
     (is : circuitIn old e ≡ planned q e) where
   few-uses : useCount old e ≤ usesMost
   unfolding circuitIn planned uses
-  few-uses = omega (arith, sym (length-upTo (useCount old e) (useIn old e)) ∙ ap (λ (x : Planned). length (x .uses)) is ∙ ap suc (length-upTo _ _), sound .path e listed .few)
+  few-uses = omega (arith, sym (length-upTo (useCount old e) (useIn old e)) ∙ ap (λ (x : CircuitPlan). length (x .uses)) is ∙ ap suc (length-upTo _ _), sound .path e listed .few)
 
   few-sends : sendCount old e ≤ hopsMost
   unfolding circuitIn planned
-  few-sends = omega (arith, sym (length-upTo (sendCount old e) (sendIn old e)) ∙ ap (λ (x : Planned). length (x .sends)) is ∙ length-upTo _ _, sound .path e listed .few)
+  few-sends = omega (arith, sym (length-upTo (sendCount old e) (sendIn old e)) ∙ ap (λ (x : CircuitPlan). length (x .sends)) is ∙ length-upTo _ _, sound .path e listed .few)
 
   -- the places of another circuit
-  there : (k : ℕ) → k < circuitSize → getD new (1 + e * circuitSize + k) 0 ≡ getD old (1 + e * circuitSize + k) 0
+  there : (k : ℕ) → k < circuitSize → getD new (circuitAt e + k) 0 ≡ getD old (circuitAt e + k) 0
   there k h = w .kept _ (inl (omega arith))
 
   use-there : (k : ℕ) → k < useCount old e → useIn new e k ≡ useIn old e k
@@ -217,17 +177,17 @@ module _ {q : Request} (sound : SoundRequest q) {c : ℕ} {old new : List ℕ} (
   stays : circuitIn new e ≡ planned q e
   unfolding circuitIn
   stays =
-      rw (w .kept (1 + e * circuitSize) (inl (omega arith)), there 1 (omega arith), there 2 (omega arith), there 3 (omega arith), upTo-same _ _ _ use-there, upTo-same _ _ _ send-there) is
+      rw (w .kept (circuitAt e) (inl (omega arith)), there 1 (omega arith), there 2 (omega arith), there 3 (omega arith), upTo-same _ _ _ use-there, upTo-same _ _ _ send-there) is
 
 pub record Filling (q : Request) (n c : ℕ) (p : List ℕ) : Type 0 where
   pub long : length p ≡ planSize
   pub many : circuitsIn p ≡ n
   pub each : (e : ℕ) → e < c → circuitIn p e ≡ planned q e
 
-pub filling-none : {q : Request} (p : List ℕ) {n x : ℕ} → length p ≡ planSize → x ≡ n → Filling q n 0 (set p 0 x)
-filling-none p {x = x} h e = record { long = length-set p 0 x ∙ h; many = getD-set-same p 0 x 0 (omega arith) ∙ e; each = λ e l. absurd (omega arith) }
+pub filling-none : {q : Request} (p : List ℕ) {p′ : List ℕ} {n : ℕ} → length p ≡ planSize → p′ ≡ set p 0 n → Filling q n 0 p′
+filling-none p {n = n} h e = rw e (record { long = length-set p 0 n ∙ h; many = getD-set-same p 0 n 0 (omega arith); each = λ e l. absurd (omega arith) })
 
-pub filling-more : {q : Request} {n c : ℕ} {old new : List ℕ} → SoundRequest q → n ≡ length (q .circuits) → c < n → Filling q n c old → Written q c old new → Filling q n (c + 1) new
+pub filling-more : {q : Request} {n c : ℕ} {old new : List ℕ} → SoundRequest q → n ≡ length (q .circuits) → c < n → Filling q n c old → CircuitWritten q c old new → Filling q n (c + 1) new
 filling-more {q} {n} {c} {old} {new} sound is low f w = record { long = w .long ∙ f .long; many = w .kept 0 (inl (omega arith)) ∙ f .many; each = λ e h. pick e h (decLt e c) }
   where
     pick : (e : ℕ) → e < c + 1 → Dec (e < c) → circuitIn new e ≡ planned q e

@@ -10,7 +10,7 @@ use lib.Dec.{leb, leb·zero}
 use borrow.Author.Tests.{le-leb, lt-leb, leb-true, leb-false}
 use Rattle.model.specs.Search.{Walk, found, noRoom, later, choice, thenTry}
 use Rattle.num_mask.specs.Bits.{offsets}
-use Rattle.slot_search.specs.Code.{cut, assigned, Ends}
+use Rattle.slot_search.specs.Code.{cut, assigned, WalkEnds}
 use Rattle.slot_search.specs.declared.Outcome.{Outcome}
 use Rattle.slot_search.specs.declared.Outcome.the-variants.{Found, NoRoom, Over}
 
@@ -76,11 +76,11 @@ first-none l k (noRoom v) w′ e = (go (leb v l) refl e, assigned-later v w′)
 -- ---- how a walk ends, from how its parts end
 
 module _ {n c : ℕ} {old : List ℕ} where
-  pub ends-same : {w w′ : Walk} {l : ℕ} {new : List ℕ} {r : Outcome} → w ≡ w′ → Ends w n c l old new r → Ends w′ n c l old new r
-  ends-same {w} {w′} {l} {new} {r} e h = subst (λ (x : Walk). Ends x n c l old new r) e h
+  pub ends-same : {w w′ : Walk} {l : ℕ} {new : List ℕ} {r : Outcome} → w ≡ w′ → WalkEnds w n c l old new r → WalkEnds w′ n c l old new r
+  ends-same {w} {w′} {l} {new} {r} e h = subst (λ (x : Walk). WalkEnds x n c l old new r) e h
 
   -- an allowed choice, with a visit to spare and with none; a choice that is not allowed
-  pub ends-visit : {w : Walk} {new : List ℕ} {r : Outcome} (l : ℕ) → 0 < l → Ends w n c (l - 1) old new r → Ends (choice true w) n c l old new r
+  pub ends-visit : {w : Walk} {new : List ℕ} {r : Outcome} (l : ℕ) → 0 < l → WalkEnds w n c (l - 1) old new r → WalkEnds (choice true w) n c l old new r
   unfolding choice
   ends-visit {w} l p h = record {
     answer = h .answer ∙ sym (cut-later 1 l w (omega arith));
@@ -88,23 +88,23 @@ module _ {n c : ℕ} {old : List ℕ} where
     holds = λ k e. h .holds k e ∙ sym (assigned-later 1 w);
   }
 
-  pub ends-broke : (w : Walk) (l : ℕ) → l ≡ 0 → Ends (choice true w) n c l old old Over
+  pub ends-broke : (w : Walk) (l : ℕ) → l ≡ 0 → WalkEnds (choice true w) n c l old old Over
   unfolding choice
   ends-broke w l p = record { answer = sym (cut-over 1 l w (omega arith)); kept = refl; holds = λ k e. cc }
 
-  pub ends-shut : (w : Walk) (l : ℕ) → Ends (choice false w) n c l old old (NoRoom l)
+  pub ends-shut : (w : Walk) (l : ℕ) → WalkEnds (choice false w) n c l old old (NoRoom l)
   unfolding choice cut
   ends-shut w l = record { answer = rw (leb·zero l, sub-zero l); kept = refl; holds = λ k e. cc }
 
   -- two choices
-  pub ends-first : {w : Walk} {l : ℕ} {new : List ℕ} {k : ℕ} (w′ : Walk) → Ends w n c l old new (Found k) → Ends (thenTry w w′) n c l old new (Found k)
+  pub ends-first : {w : Walk} {l : ℕ} {new : List ℕ} {k : ℕ} (w′ : Walk) → WalkEnds w n c l old new (Found k) → WalkEnds (thenTry w w′) n c l old new (Found k)
   ends-first {w} {l} {new} {k} w′ h = ends-same (sym (first-found l k w w′ (h .answer))) h
 
-  pub ends-over : {w : Walk} {l : ℕ} {new : List ℕ} (w′ : Walk) → Ends w n c l old new Over → Ends (thenTry w w′) n c l old new Over
+  pub ends-over : {w : Walk} {l : ℕ} {new : List ℕ} (w′ : Walk) → WalkEnds w n c l old new Over → WalkEnds (thenTry w w′) n c l old new Over
   ends-over {w} {l} w′ h = record { answer = sym (first-over l w w′ (h .answer)); kept = h .kept; holds = λ k e. cc }
 
   pub ends-second : {w w′ : Walk} {l k : ℕ} {mid new : List ℕ} {r : Outcome}
-      → Ends w n c l old mid (NoRoom k) → Ends w′ n c k mid new r → Ends (thenTry w w′) n c l old new r
+      → WalkEnds w n c l old mid (NoRoom k) → WalkEnds w′ n c k mid new r → WalkEnds (thenTry w w′) n c l old new r
   ends-second {w} {w′} {l} {k} h g =
       let p = first-none l k w w′ (h .answer) in
       record {
@@ -114,7 +114,7 @@ module _ {n c : ℕ} {old : List ℕ} where
       }
 
   -- nothing is left to walk
-  pub ends-found : (l : ℕ) → c ≡ n → Ends (found 0 (map offsets (take c old))) n c l old old (Found l)
+  pub ends-found : (l : ℕ) → c ≡ n → WalkEnds (found 0 (map offsets (take c old))) n c l old old (Found l)
   unfolding cut assigned
   ends-found l p = record {
     answer = rw (leb·zero l, sub-zero l);

@@ -18,8 +18,8 @@ use Rattle.model.specs.Tests.{_and_, neg}
 use Rattle.model.specs.Search.{Walk, choice, thenTry}
 use Rattle.num_mask.specs.Bits.{bit, offsets, Above}
 use Rattle.num_mask.proofs.Laws.{offsets-length, offsets-more}
-use Rattle.plan.specs.Plan.{circuitsIn, cycleIn, demandIn, Fit}
-use Rattle.slot_search.specs.Code.{Inside, SkippedTo, fromCell, Ends, CircuitEnds, CellEnds}
+use Rattle.plan.specs.Plan.{circuitsIn, cycleIn, demandIn, InBounds}
+use Rattle.slot_search.specs.Code.{Inside, SkippedTo, fromCell, WalkEnds, CircuitEnds, CellEnds}
 use Rattle.slot_search.specs.declared.Outcome.{Outcome}
 use Rattle.slot_search.specs.declared.Outcome.the-variants.{Found, NoRoom, Over}
 use Rattle.slot_search.proofs.WalkLaws.{fromTake, fromSkip, cell-split}
@@ -30,14 +30,14 @@ use Rattle.slot_search.proofs.CellLaws.{skip-no, skip-yes, ends-circuit
 pub record Turn (grid p : List ℕ) (c from mask shut budget : ℕ) (old now : List ℕ) (a left : ℕ) : Type 0 where
   pub started : from ≤ a
   pub within : a ≤ cycleIn p c
-  pub fit : Fit p c
+  pub fit : InBounds p c
   pub low : mask < 2 ^ a
   pub sized : length now ≡ length old
   pub kept : take c now ≡ take c old
   pub goes-on :
       (new : List ℕ) (r : Outcome) → CellEnds grid p c a mask shut left now new r → CellEnds grid p c from mask shut budget old new r
 
-pub turn-start : (grid p : List ℕ) (c from mask shut budget : ℕ) (old : List ℕ) → Inside p c from mask → Fit p c
+pub turn-start : (grid p : List ℕ) (c from mask shut budget : ℕ) (old : List ℕ) → Inside p c from mask → InBounds p c
     → Turn grid p c from mask shut budget old old from budget
 turn-start grid p c from mask shut budget old h f = record {
   started = omega arith;
@@ -80,7 +80,7 @@ module _ {grid p : List ℕ} {c from mask shut budget : ℕ} {old now : List ℕ
 
   -- the walk where the cell is taken came to r
   abbrev pub Tried : List ℕ → Outcome → Type 0
-  Tried mid r = Ends taking (circuitsIn p) c left now mid r
+  Tried mid r = WalkEnds taking (circuitsIn p) c left now mid r
 
   -- what the code's call for a cell that is taken ensures
   abbrev pub Called : List ℕ → Outcome → Type 0
@@ -163,7 +163,7 @@ module _ {grid p : List ℕ} {c from mask shut budget : ℕ} {old now : List ℕ
     pub out-spent : ones mask < N → shut / 2 ^ a % 2 ≡ 0 → left ≡ 0 → Whole now Over
     out-spent l h z = t .goes-on now Over (ends-same (sym split) (ends-over (skipping now) (ends-same (sym (take-open l h)) (ends-broke on left z))))
 
-    after-take : {mid new : List ℕ} {k : ℕ} {r : Outcome} → Nothing mid k → Ends (skipping mid) (circuitsIn p) c k mid new r → Whole new r
+    after-take : {mid new : List ℕ} {k : ℕ} {r : Outcome} → Nothing mid k → WalkEnds (skipping mid) (circuitsIn p) c k mid new r → Whole new r
     after-take {mid} {new} {k} {r} h g =
         let same : skipping mid ≡ skipping now =
         ap (λ (x : List ℕ). fromSkip grid p c (map offsets x) shut (D - (a + 1)) a (offsets mask)) (h .1 .kept) in

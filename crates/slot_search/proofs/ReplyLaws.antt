@@ -9,7 +9,7 @@ use borrow.Author.Tests.{leb-true}
 use Rattle.model.specs.Search.{Walk, found, noRoom, search, Reply, slots, full, unfinished, reply}
 use Rattle.plan.specs.Plan.{circuitsIn}
 use Rattle.slot_grid.specs.Table.{clashIn}
-use Rattle.slot_search.specs.Code.{circuits, fromCircuit, cut, assigned, Ends, CircuitEnds, Replies}
+use Rattle.slot_search.specs.Code.{circuits, fromCircuit, cut, assigned, WalkEnds, CircuitEnds, Replies}
 use Rattle.slot_search.specs.declared.Outcome.{Outcome}
 use Rattle.slot_search.specs.declared.Outcome.the-variants.{Found, NoRoom, Over}
 use Rattle.slot_search.specs.declared.Allotted.{Allotted}
@@ -63,10 +63,10 @@ rest-cut l (noRoom v) = go (leb v l)
 
 -- ---- the whole walk came to r, as o has it
 
-pub rest-le : {w : Walk} {n l : ℕ} {old new : List ℕ} {r o : Outcome} → r ≡ o → Ends w n 0 l old new r → rest o ≤ l
+pub rest-le : {w : Walk} {n l : ℕ} {old new : List ℕ} {r o : Outcome} → r ≡ o → WalkEnds w n 0 l old new r → rest o ≤ l
 rest-le {w} {l} e h = rw (sym e ∙ h .answer) (rest-cut l w)
 
-reply-told : {w : Walk} {n l : ℕ} {old new : List ℕ} (o : Outcome) → Ends w n 0 l old new o → Replies (told l (assigned w) o) n new (allotted l o)
+reply-told : {w : Walk} {n l : ℕ} {old new : List ℕ} (o : Outcome) → WalkEnds w n 0 l old new o → Replies (told l (assigned w) o) n new (allotted l o)
 reply-told (Found k) h = let m = h .holds k refl in record { to-slots = λ v os e. (cc, cc); to-full = λ v e. cc; to-unfinished = λ e. cc }
 reply-told (NoRoom k) h = record { to-slots = λ v os e. (cc, cc); to-full = λ v e. cc; to-unfinished = λ e. cc }
 reply-told Over h = record { to-slots = λ v os e. (cc, cc); to-full = λ v e. cc; to-unfinished = λ e. refl }
@@ -78,5 +78,5 @@ unfolding fromCircuit
 replied grid p {l} {old} {new} {r} {o} e h =
     let n = circuitsIn p in
     let w = search (clashIn grid) (circuits p) [] in
-    let g : Ends w n 0 l old new o = subst (λ (x : Outcome). Ends w n 0 l old new x) e h in
+    let g : WalkEnds w n 0 l old new o = subst (λ (x : Outcome). WalkEnds w n 0 l old new x) e h in
     rw (reply-cut l w, ← g .answer) (reply-told o g)

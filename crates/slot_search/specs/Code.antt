@@ -75,19 +75,19 @@ assigned (found v os) = os
 assigned (noRoom v) = []
 
 -- a walk w from circuit c of n on, under the budget `left`, ends with r and changes the masks from `old` to `new`
-pub record Ends (w : Walk) (n c left : ℕ) (old new : List ℕ) (r : Outcome) : Type 0 where
+pub record WalkEnds (w : Walk) (n c left : ℕ) (old new : List ℕ) (r : Outcome) : Type 0 where
   pub answer : r ≡ cut left w
   pub kept : take c new ≡ take c old
   pub holds : (rest : ℕ) → r ≡ Found rest → map offsets (take n new) ≡ assigned w
 
 -- the walk from circuit c on ends so, where the masks before it hold what the earlier circuits have taken
 abbrev pub CircuitEnds : (grid p : List ℕ) (c left : ℕ) (old new : List ℕ) (r : Outcome) → Type 0
-CircuitEnds grid p c left old new r = Ends (fromCircuit grid p c (map offsets (take c old))) (circuitsIn p) c left old new r
+CircuitEnds grid p c left old new r = WalkEnds (fromCircuit grid p c (map offsets (take c old))) (circuitsIn p) c left old new r
 
 -- the walk from its cell a on, where it has taken the mask's offsets
 abbrev pub CellEnds : (grid p : List ℕ) (c a mask shut left : ℕ) (old new : List ℕ) (r : Outcome) → Type 0
 CellEnds grid p c a mask shut left old new r =
-    Ends (fromCell grid p c shut (map offsets (take c old)) (cycleIn p c - a) a (offsets mask)) (circuitsIn p) c left old new r
+    WalkEnds (fromCell grid p c shut (map offsets (take c old)) (cycleIn p c - a) a (offsets mask)) (circuitsIn p) c left old new r
 
 -- the code's reply to the definition's: where it is Done the masks of the n circuits hold the offsets
 pub record Replies (replied : Reply) (n : ℕ) (new : List ℕ) (r : Allotted) : Type 0 where

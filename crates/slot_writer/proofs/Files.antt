@@ -14,7 +14,7 @@ use Rattle.num_mask.specs.Bits.{offsets}
 use Rattle.plan.specs.Plan.{circuitsIn}
 use Rattle.file_writer.proofs.Files.{file-length}
 use Rattle.file_writer.proofs.Lists.{map-upTo, joined-length}
-use Rattle.slot_writer.specs.Files.{offsetsRecord, assignmentRoom, Assigns}
+use Rattle.slot_writer.specs.Files.{offsetsRecord, assignmentRoom, MasksFor}
 
 -- the record of circuit c, and all records
 abbrev pub partOf : (m : List ℕ) (c : ℕ) → List ℕ
@@ -29,7 +29,7 @@ assignment-room p m =
     let each = upTo-same (circuitsIn p) (λ c. length (partOf m c)) (λ c. headSize + length (offsets (getD m c 0))) (λ c h. length-record offsetsKind _) in
     omega (arith, joined-length (circuitsIn p) (partOf m), ap sum each)
 
-module _ {assigned : List (List ℕ)} {p m : List ℕ} (a : Assigns assigned p m) where
+module _ {assigned : List (List ℕ)} {p m : List ℕ} (a : MasksFor assigned p m) where
   pub assignment-is : assignmentBytes assigned ≡ parts p m ++ recordOf endKind []
   unfolding assignmentBytes
   assignment-is =

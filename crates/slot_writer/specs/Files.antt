@@ -21,10 +21,10 @@ unfoldable pub assignmentRoom : (p m : List ℕ) → ℕ
 assignmentRoom p m = headSize + sum (upTo (circuitsIn p) (λ c. headSize + length (offsets (getD m c 0))))
 
 -- the masks stand for these offsets
-pub record Assigns (assigned : List (List ℕ)) (p m : List ℕ) : Type 0 where
+pub record MasksFor (assigned : List (List ℕ)) (p m : List ℕ) : Type 0 where
   pub each : length assigned ≡ circuitsIn p
   pub taken : (c : ℕ) → c < circuitsIn p → offsetsOf assigned c ≡ offsets (getD m c 0)
 
 -- what the writer tells
 pub record WroteAssignment (p m old new : List ℕ) (r : ℕ) : Type 0 where
-  pub wrote : (assigned : List (List ℕ)) → Assigns assigned p m → Wrote (assignmentBytes assigned) old new r
+  pub wrote : (assigned : List (List ℕ)) → MasksFor assigned p m → Wrote (assignmentBytes assigned) old new r

@@ -32,7 +32,7 @@ use Rattle.plan_refusal.specs.declared.Refusal.the-variants.{Nothing, Told}
 use Rattle.plan_load.specs.Loaded.{Loads}
 use Rattle.slot_allot.specs.Slots.{SizeFor, SlotsFor}
 use Rattle.file_writer.specs.Files.{Wrote}
-use Rattle.slot_writer.specs.Files.{assignmentRoom, Assigns, WroteAssignment}
+use Rattle.slot_writer.specs.Files.{assignmentRoom, MasksFor, WroteAssignment}
 use Rattle.slot_writer.proofs.Files.{assignment-size}
 
 -- ---- the reply behind the code's
@@ -126,7 +126,7 @@ module _ (s p : List ℕ) (x : Refusal) (l : Loads s p x) where
           taken-many : length (take (circuitsIn p) masks) ≡ circuitsIn p
           taken-many = length-take-le (circuitsIn p) masks (omega (arith, usable-here .few))
 
-          assigns : Assigns assigned p masks
+          assigns : MasksFor assigned p masks
           assigns = record {
             each = length-map (take (circuitsIn p) masks) offsets ∙ taken-many;
             taken = λ c k. getD-map offsets (take (circuitsIn p) masks) c 0 [] (omega (arith, taken-many)) ∙ ap offsets (getD-take (circuitsIn p) masks c 0 k);

@@ -4,12 +4,12 @@ use mathlib.Core.Path.{_≡_}
 use native.Mathlib.Omega.{arith}
 use borrow.Author.Needs.{needs}
 use lib.ListN.{length}
-use Rattle.line_chains.proofs.Linking.{Filled, fill-none, fill-more, fill-all}
+use Rattle.line_chains.proofs.Linking.{SetTo, fill-none, fill-more, fill-all}
 use Rattle.line_chains.proofs.fill.Statement.{statement}
 use Rattle.line_chains.proofs.fill.Tie as tie
 
 abbrev Inv-loop : tie.InvT-loop
-Inv-loop l₀ x i₀ i-end l i = (i ≤ i-end) × (i-end ≡ length l₀) × Filled l₀ l x i
+Inv-loop l₀ x i₀ i-end l i = (i ≤ i-end) × (i-end ≡ length l₀) × SetTo l₀ l x i
 
 abbrev μ-loop : tie.MeasureT-loop
 μ-loop l₀ x i₀ i-end l i = i-end - i

@@ -3,14 +3,14 @@ use Prim.Native.Nat.{_-_, _≤_}
 use borrow.Author.Tests.{not-false}
 use Rattle.model.proofs.Tests.{eq→T}
 use Rattle.line_chains.specs.Chains.{linesIn}
-use Rattle.line_check.proofs.Firsts.{Served, served-none, served-more, served-all}
+use Rattle.line_check.proofs.Firsts.{HopsServed, served-none, served-more, served-all}
 use borrow.Author.Needs.{needs}
 use native.Mathlib.Omega.{arith}
 use Rattle.line_check.proofs.served.Statement.{statement}
 use Rattle.line_check.proofs.served.Tie as tie
 
 abbrev Inv-loop : tie.InvT-loop
-Inv-loop p m t ch c hops k₀ k = (k ≤ hops) × Served p m t (linesIn ch) c k
+Inv-loop p m t ch c hops k₀ k = (k ≤ hops) × HopsServed p m t (linesIn ch) c k
 
 abbrev μ-loop : tie.MeasureT-loop
 μ-loop p m t ch c hops k₀ k = hops - k

@@ -1,4 +1,5 @@
 -- `line_maker::put_circuit` meets its contract. Each turn lays in the lines of the lowest offset that is left. Assumes nothing.
+use native.Mathlib.Omega.{arith}
 use lib.ListN.{getD}
 use Rattle.num_mask.proofs.Laws.{lowest-less}
 use Rattle.file_writer.proofs.Rest.{Rest, rest-start}
@@ -15,16 +16,16 @@ abbrev μ-loop : tie.MeasureT-loop
 μ-loop p m c out₀ at left₀ next₀ out left next = left
 
 mul-left : tie.Need-mul-left Inv-loop μ-loop
-mul-left c = search needs
+mul-left c = omega arith
 
 element-copy-out-left : tie.Need-element-copy-out-left Inv-loop μ-loop
-element-copy-out-left c = search needs
+element-copy-out-left c = omega arith
 
 loop-holds : tie.Need-loop-holds Inv-loop μ-loop
 loop-holds c = rest-start _ _ _ (c .before .before .pre .1)
 
 lowest-requires : tie.Need-lowest-requires Inv-loop μ-loop
-lowest-requires c κs = search needs
+lowest-requires c κs = omega arith
 
 put-sends-requires : tie.Need-put-sends-requires Inv-loop μ-loop
 put-sends-requires c κs = ((c .before .before .before .before .before .before .pre .0, c .before .lowest .ensures .inside), offset-room _ _ _ (c .before .before .before .loop .inv) (c .before .lowest .ensures))

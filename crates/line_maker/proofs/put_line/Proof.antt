@@ -9,25 +9,25 @@ use Rattle.line_maker.proofs.put_line.Statement.{statement}
 use Rattle.line_maker.proofs.put_line.Tie as tie
 
 put-head-requires : tie.Need-put-head-requires
-put-head-requires c κs = search needs
+put-head-requires c κs = omega arith
 
 add-put-four : tie.Need-add-put-four
-add-put-four c = search needs
+add-put-four c = omega arith
 
 put-four-requires : tie.Need-put-four-requires
-put-four-requires c κs = search needs
+put-four-requires c κs = omega arith
 
 add-put-word : tie.Need-add-put-word
-add-put-word c = search needs
+add-put-word c = omega arith
 
 put-word-requires : tie.Need-put-word-requires
-put-word-requires c κs = search needs
+put-word-requires c κs = omega arith
 
 add-put-word-2 : tie.Need-add-put-word-2
-add-put-word-2 c = search needs
+add-put-word-2 c = omega arith
 
 put-word-requires-2 : tie.Need-put-word-requires-2
-put-word-requires-2 c κs = search needs
+put-word-requires-2 c κs = omega arith
 
 same-length : tie.Need-same-length
 same-length c = search needs

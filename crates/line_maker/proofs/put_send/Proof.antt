@@ -9,40 +9,40 @@ use Rattle.line_maker.proofs.put_send.Statement.{statement}
 use Rattle.line_maker.proofs.put_send.Tie as tie
 
 cycle-requires : tie.Need-cycle-requires
-cycle-requires c κs = search needs
+cycle-requires c κs = omega arith
 
 router-requires : tie.Need-router-requires
-router-requires c κs = search needs
+router-requires c κs = omega arith
 
 cast-router : tie.Need-cast-router
 cast-router c = omega (arith, c .before .before .before .pre .0 .0 .router-low (c .before .before .before .args .j) (omega arith))
 
 sent-requires : tie.Need-sent-requires
-sent-requires c κs = search needs
+sent-requires c κs = omega arith
 
 add-slot : tie.Need-add-slot
 add-slot c = omega (arith, c .before .before .before .before .pre .0 .0 .sent-low (c .before .before .before .before .args .j) (omega arith))
 
 rem-slot : tie.Need-rem-slot
-rem-slot c = search needs
+rem-slot c = omega arith
 
 cast-slot : tie.Need-cast-slot
 cast-slot c = let some : 1 ≤ c .before .before .cycle .result = omega (arith, c .before .before .before .before .pre .0 .0 .cycle .low) in omega (arith, mod-lt (c .before .before .before .before .args .a + c .sent .result) some)
 
 cast-put-line : tie.Need-cast-put-line
-cast-put-line c = search needs
+cast-put-line c = omega arith
 
 inp-requires : tie.Need-inp-requires
-inp-requires c κs = search needs
+inp-requires c κs = omega arith
 
 out-requires : tie.Need-out-requires
-out-requires c κs = search needs
+out-requires c κs = omega arith
 
 put-line-requires : tie.Need-put-line-requires
-put-line-requires c κs = search needs
+put-line-requires c κs = omega arith
 
 add-result : tie.Need-add-result
-add-result c = search needs
+add-result c = omega arith
 
 same-length : tie.Need-same-length
 same-length c = search needs

@@ -5,7 +5,6 @@ use Rattle.file_writer.proofs.Lists.{leftOf}
 use Rattle.file_writer.proofs.Rest.{Rest, rest-start, part-room, part-more, part-end}
 use Rattle.line_maker.specs.Files.{sendBytes, offsetBytes}
 use Rattle.line_maker.proofs.Sizes.{send-length}
-use borrow.Author.Needs.{needs}
 use native.Mathlib.Omega.{arith}
 use Rattle.line_maker.proofs.put_sends.Statement.{statement}
 use Rattle.line_maker.proofs.put_sends.Tie as tie
@@ -17,7 +16,7 @@ abbrev μ-loop : tie.MeasureT-loop
 μ-loop p c a out₀ at n next₀ j₀ out next j = n - j
 
 sends-requires : tie.Need-sends-requires Inv-loop μ-loop
-sends-requires c κs = search needs
+sends-requires c κs = omega arith
 
 loop-holds : tie.Need-loop-holds Inv-loop μ-loop
 unfolding offsetBytes
@@ -27,10 +26,10 @@ put-send-requires : tie.Need-put-send-requires Inv-loop μ-loop
 put-send-requires c κs = ((c .before .before .before .before .before .pre .0 .0, c .before .before .before .before .before .pre .0 .1, omega arith), omega (arith, send-length (c .before .before .before .before .before .args .p .now) (c .before .before .before .before .before .args .c) (c .before .before .before .before .before .args .a) (c .before .before .loop .j), part-room _ _ (c .before .before .loop .j) (c .before .before .loop .inv .1) (omega arith)))
 
 add-j : tie.Need-add-j Inv-loop μ-loop
-add-j c = search needs
+add-j c = omega arith
 
 loop-less : tie.Need-loop-less Inv-loop μ-loop
-loop-less c = search needs
+loop-less c = omega arith
 
 loop-again : tie.Need-loop-again Inv-loop μ-loop
 loop-again c = (omega arith, part-more _ _ (c .before .before .before .before .before .loop .j) (c .before .before .before .before .before .loop .inv .1) (omega arith) (c .before .before .put-send .ensures))

@@ -5,7 +5,6 @@ use Rattle.model.specs.Sizes.{headSize, lineSize, cycleMost, hopsMost}
 use Rattle.model.specs.Tests.{upTo, sum}
 use Rattle.line_maker.specs.Files.{linesSize}
 use Rattle.line_maker.proofs.Sizes.{circuit-few, total-more, total-end}
-use borrow.Author.Needs.{needs}
 use native.Mathlib.Omega.{arith}
 use Rattle.line_maker.proofs.table_size.Statement.{statement}
 use Rattle.line_maker.proofs.table_size.Tie as tie
@@ -17,26 +16,26 @@ abbrev μ-loop : tie.MeasureT-loop
 μ-loop p m n total₀ c₀ total c = n - c
 
 circuits-requires : tie.Need-circuits-requires Inv-loop μ-loop
-circuits-requires c κs = search needs
+circuits-requires c κs = omega arith
 
 loop-holds : tie.Need-loop-holds Inv-loop μ-loop
 unfolding sum upTo
 loop-holds c = (omega arith, refl, omega arith)
 
 mul-size : tie.Need-mul-size Inv-loop μ-loop
-mul-size c = search needs
+mul-size c = omega arith
 
 element-copy-out-size : tie.Need-element-copy-out-size Inv-loop μ-loop
-element-copy-out-size c = search needs
+element-copy-out-size c = omega arith
 
 size-requires : tie.Need-size-requires Inv-loop μ-loop
-size-requires c κs = search needs
+size-requires c κs = omega arith
 
 cast-slots : tie.Need-cast-slots Inv-loop μ-loop
-cast-slots c = search needs
+cast-slots c = omega arith
 
 sends-requires : tie.Need-sends-requires Inv-loop μ-loop
-sends-requires c κs = search needs
+sends-requires c κs = omega arith
 
 mul-total : tie.Need-mul-total Inv-loop μ-loop
 mul-total c = omega (arith, circuit-few (c .before .before .before .before .before .before .pre .fit (c .before .before .before .before .loop .c) (omega arith)) _ (c .before .size .ensures) (c .sends .ensures))
@@ -48,10 +47,10 @@ add-total : tie.Need-add-total Inv-loop μ-loop
 add-total c = omega (arith, circuit-few (c .before .before .before .before .before .before .pre .fit (c .before .before .before .before .loop .c) (omega arith)) _ (c .before .size .ensures) (c .sends .ensures))
 
 add-c : tie.Need-add-c Inv-loop μ-loop
-add-c c = search needs
+add-c c = omega arith
 
 loop-less : tie.Need-loop-less Inv-loop μ-loop
-loop-less c = search needs
+loop-less c = omega arith
 
 loop-again : tie.Need-loop-again Inv-loop μ-loop
 loop-again c = let few = circuit-few (c .before .before .before .before .before .before .pre .fit (c .before .before .before .before .loop .c) (omega arith)) _ (c .before .size .ensures) (c .sends .ensures) in (omega arith, total-more (c .before .before .before .before .before .before .args .p .now) (c .before .before .before .before .before .before .args .m .now) _ (c .before .before .before .before .loop .inv .1) (c .before .size .ensures) (c .sends .ensures), omega arith)

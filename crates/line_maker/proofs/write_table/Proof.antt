@@ -18,7 +18,7 @@ abbrev μ-loop : tie.MeasureT-loop
 μ-loop p m out₀ n at₀ c₀ out at c = n - c
 
 circuits-requires : tie.Need-circuits-requires Inv-loop μ-loop
-circuits-requires c κs = search needs
+circuits-requires c κs = omega arith
 
 loop-holds : tie.Need-loop-holds Inv-loop μ-loop
 loop-holds c = (omega arith, rest-start _ _ _ (omega (arith, table-length (c .before .before .args .p .now) (c .before .before .args .m .now))))
@@ -27,10 +27,10 @@ put-circuit-requires : tie.Need-put-circuit-requires Inv-loop μ-loop
 put-circuit-requires c κs = (c .before .before .before .before .before .pre .0 .fit _ (omega arith), part-room _ _ (c .before .before .loop .c) (c .before .before .loop .inv .1) (omega arith))
 
 add-c : tie.Need-add-c Inv-loop μ-loop
-add-c c = search needs
+add-c c = omega arith
 
 loop-less : tie.Need-loop-less Inv-loop μ-loop
-loop-less c = search needs
+loop-less c = omega arith
 
 loop-again : tie.Need-loop-again Inv-loop μ-loop
 loop-again c = (omega arith, part-more _ _ (c .before .before .before .before .before .loop .c) (c .before .before .before .before .before .loop .inv .1) (omega arith) (c .before .before .put-circuit .ensures))

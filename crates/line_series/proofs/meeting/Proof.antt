@@ -1,14 +1,14 @@
 -- `line_series::meeting` meets its contract. The loop's invariant: what was seen of the lines before m. Assumes nothing.
 use Prim.Native.Nat.{_-_}
 use mathlib.Core.Path.{refl}
-use Rattle.line_series.proofs.Walking.{Going, going-none, held-here, going-less, going-past, going-on, going-all}
+use Rattle.line_series.proofs.Walking.{Looking, going-none, held-here, going-less, going-past, going-on, going-all}
 use borrow.Author.Needs.{needs}
 use native.Mathlib.Omega.{arith}
 use Rattle.line_series.proofs.meeting.Statement.{statement}
 use Rattle.line_series.proofs.meeting.Tie as tie
 
 abbrev Inv-loop : tie.InvT-loop
-Inv-loop t ch port cycle start lines early one₀ part₀ two₀ m₀ one part two m = Going t lines port cycle start one part two m
+Inv-loop t ch port cycle start lines early one₀ part₀ two₀ m₀ one part two m = Looking t lines port cycle start one part two m
 
 abbrev μ-loop : tie.MeasureT-loop
 μ-loop t ch port cycle start lines early one₀ part₀ two₀ m₀ one part two m = lines - m

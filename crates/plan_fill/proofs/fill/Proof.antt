@@ -3,7 +3,6 @@ use Prim.Native.Nat.{_-_, _≤_}
 use Rattle.model.specs.Reading.{request}
 use Rattle.model.proofs.Readers.{request-sound}
 use Rattle.plan_fill.proofs.Loading.{Filling, filling-none, filling-more, filling-all}
-use borrow.Author.Needs.{needs}
 use native.Mathlib.Omega.{arith}
 use Rattle.plan_fill.proofs.fill.Statement.{statement}
 use Rattle.plan_fill.proofs.fill.Tie as tie
@@ -14,38 +13,35 @@ Inv-loop req n at p₀ c₀ p c = (c ≤ n) × Filling (request req) n c p
 abbrev μ-loop : tie.MeasureT-loop
 μ-loop req n at p₀ c₀ p c = n - c
 
-narrow-requires : tie.Need-narrow-requires Inv-loop μ-loop
-narrow-requires c κs = search needs
-
-slice-write-p : tie.Need-slice-write-p Inv-loop μ-loop
-slice-write-p c = search needs
+put-circuits-requires : tie.Need-put-circuits-requires Inv-loop μ-loop
+put-circuits-requires c κs = omega arith
 
 loop-holds : tie.Need-loop-holds Inv-loop μ-loop
-loop-holds c = (omega arith, search filling-none)
+loop-holds c = (omega arith, filling-none (c .before .before .before .before .before .before .before .args .p .now) (c .before .before .before .before .before .before .before .pre .1) (c .before .before .put-circuits .ensures))
 
 mul-put-circuit : tie.Need-mul-put-circuit Inv-loop μ-loop
-mul-put-circuit c = search needs
+mul-put-circuit c = omega arith
 
 shared-slice-read-put-circuit : tie.Need-shared-slice-read-put-circuit Inv-loop μ-loop
-shared-slice-read-put-circuit c = search needs
+shared-slice-read-put-circuit c = omega arith
 
 put-circuit-requires : tie.Need-put-circuit-requires Inv-loop μ-loop
-put-circuit-requires c κs = (c .before .before .before .before .before .before .before .before .pre .0 .each _ (omega arith), (omega arith, c .before .before .before .loop .inv .1 .long))
+put-circuit-requires c κs = (c .before .before .before .before .before .before .before .before .before .before .before .pre .0 .each _ (omega arith), (omega arith, c .before .before .before .loop .inv .1 .long))
 
 add-c : tie.Need-add-c Inv-loop μ-loop
-add-c c = search needs
+add-c c = omega arith
 
 loop-less : tie.Need-loop-less Inv-loop μ-loop
-loop-less c = search needs
+loop-less c = omega arith
 
 loop-again : tie.Need-loop-again Inv-loop μ-loop
-loop-again c = let g = c .before .before .before .before .before .before .before .before .before .before .before .pre .0 in (omega arith, filling-more (request-sound _ (g .fine)) (g .many) (c .before .before .before .before .before .loop-test .taken) (c .before .before .before .before .before .before .loop .inv .1) (c .before .before .put-circuit .ensures))
+loop-again c = let g = c .before .before .before .before .before .before .before .before .before .before .before .before .before .before .pre .0 in (omega arith, filling-more (request-sound _ (g .fine)) (g .many) (c .before .before .before .before .before .loop-test .taken) (c .before .before .before .before .before .before .loop .inv .1) (c .before .before .put-circuit .ensures))
 
 same-length : tie.Need-same-length Inv-loop μ-loop
-same-length c = search needs
+same-length c = omega (arith, c .before .loop .inv .1 .long)
 
 returns : tie.Need-returns Inv-loop μ-loop
-returns c = filling-all (c .before .before .before .before .before .before .pre .0) (omega arith) (c .before .loop .inv .1)
+returns c = filling-all (c .before .before .before .before .before .before .before .before .before .pre .0) (omega arith) (c .before .loop .inv .1)
 
 pub fill-spec : {M : Type 1} → statement M
 fill-spec =
@@ -53,8 +49,7 @@ fill-spec =
     (tie.spec
     Inv-loop
     μ-loop
-    narrow-requires
-    slice-write-p
+    put-circuits-requires
     loop-holds
     mul-put-circuit
     shared-slice-read-put-circuit

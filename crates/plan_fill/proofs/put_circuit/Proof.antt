@@ -10,89 +10,61 @@ use Rattle.model.proofs.Sound.{after-first}
 use Rattle.file_parts.proofs.Parts.{link-here}
 use Rattle.plan.specs.Plan.{planSize}
 use Rattle.plan_fill.proofs.Loading.{Writing, writing-none, writing-more, late-next, inp-next, writing-all}
-use borrow.Author.Needs.{needs}
 use native.Mathlib.Omega.{arith}
 use Rattle.plan_fill.proofs.put_circuit.Statement.{statement}
 use Rattle.plan_fill.proofs.put_circuit.Tie as tie
 
 abbrev Inv-loop : tie.InvT-loop
-Inv-loop req c a p₀ hops cycle demand base first owner inp₀ late₀ j₀ p inp late j = (j ≤ hops) × (hops ≤ hopsMost) × (c < circuitsMost) × (length p ≡ planSize) × (inp < wordEnd) × (inp ≡ inport (circuitOf (request req) c) j) × (late ≤ j) × (late ≡ after (request req .network) (circuitOf (request req) c) j) × ((old : List ℕ) → Writing (request req) c 0 old p₀ → Writing (request req) c j old p)
+Inv-loop req c a p₀ hops cycle demand first owner inp₀ late₀ j₀ p inp late j = (j ≤ hops) × (hops ≤ hopsMost) × (c < circuitsMost) × (length p ≡ planSize) × (inp < wordEnd) × (inp ≡ inport (circuitOf (request req) c) j) × (late ≤ j) × (late ≡ after (request req .network) (circuitOf (request req) c) j) × ((old : List ℕ) → Writing (request req) c 0 old p₀ → Writing (request req) c j old p)
 
 abbrev μ-loop : tie.MeasureT-loop
-μ-loop req c a p₀ hops cycle demand base first owner inp₀ late₀ j₀ p inp late j = hops - j
+μ-loop req c a p₀ hops cycle demand first owner inp₀ late₀ j₀ p inp late j = hops - j
 
 hops-of-requires : tie.Need-hops-of-requires Inv-loop μ-loop
-hops-of-requires c κs = search needs
+hops-of-requires c κs = c .before .before .pre .0
 
 cycle-of-requires : tie.Need-cycle-of-requires Inv-loop μ-loop
-cycle-of-requires c κs = search needs
+cycle-of-requires c κs = c .before .before .before .pre .0
 
 demand-of-requires : tie.Need-demand-of-requires Inv-loop μ-loop
-demand-of-requires c κs = search needs
+demand-of-requires c κs = c .before .before .before .before .pre .0
 
-mul-base : tie.Need-mul-base Inv-loop μ-loop
-mul-base c = omega arith
+add-put-counts : tie.Need-add-put-counts Inv-loop μ-loop
+add-put-counts c = omega arith
 
-add-base : tie.Need-add-base Inv-loop μ-loop
-add-base c = omega arith
-
-add-put-four : tie.Need-add-put-four Inv-loop μ-loop
-add-put-four c = omega arith
-
-put-four-requires : tie.Need-put-four-requires Inv-loop μ-loop
-put-four-requires c κs = omega arith
+put-counts-requires : tie.Need-put-counts-requires Inv-loop μ-loop
+put-counts-requires c κs = omega arith
 
 hop-of-requires : tie.Need-hop-of-requires Inv-loop μ-loop
-hop-of-requires c κs = (search needs, omega arith)
+hop-of-requires c κs = (c .before .before .before .before .before .before .before .before .before .pre .0, omega arith)
 
 from-router-requires : tie.Need-from-router-requires Inv-loop μ-loop
 from-router-requires c κs = search link-here
 
-add-put-two : tie.Need-add-put-two Inv-loop μ-loop
-add-put-two c = omega arith
+add-put-use : tie.Need-add-put-use Inv-loop μ-loop
+add-put-use c = omega arith
 
-add-put-two-2 : tie.Need-add-put-two-2 Inv-loop μ-loop
-add-put-two-2 c = omega arith
-
-put-two-requires : tie.Need-put-two-requires Inv-loop μ-loop
-put-two-requires c κs = omega arith
+put-use-requires : tie.Need-put-use-requires Inv-loop μ-loop
+put-use-requires c κs = omega arith
 
 loop-holds : tie.Need-loop-holds Inv-loop μ-loop
 unfolding inport
 loop-holds c = (omega arith, omega arith, omega arith, omega arith, omega arith, refl, omega arith, sym (after-first _ _), λ old w. w)
 
 hop-of-requires-2 : tie.Need-hop-of-requires-2 Inv-loop μ-loop
-hop-of-requires-2 c κs = (search needs, omega arith)
+hop-of-requires-2 c κs = (c .before .before .before .before .before .before .before .before .before .before .before .before .before .before .before .before .before .pre .0, omega arith)
 
 from-router-requires-2 : tie.Need-from-router-requires-2 Inv-loop μ-loop
 from-router-requires-2 c κs = search link-here
 
-add-put-two-3 : tie.Need-add-put-two-3 Inv-loop μ-loop
-add-put-two-3 c = omega arith
+add-put-use-2 : tie.Need-add-put-use-2 Inv-loop μ-loop
+add-put-use-2 c = omega arith
 
-add-put-two-4 : tie.Need-add-put-two-4 Inv-loop μ-loop
-add-put-two-4 c = omega arith
+put-use-requires-2 : tie.Need-put-use-requires-2 Inv-loop μ-loop
+put-use-requires-2 c κs = omega arith
 
-mul-put-two : tie.Need-mul-put-two Inv-loop μ-loop
-mul-put-two c = omega arith
-
-add-put-two-5 : tie.Need-add-put-two-5 Inv-loop μ-loop
-add-put-two-5 c = omega arith
-
-put-two-requires-2 : tie.Need-put-two-requires-2 Inv-loop μ-loop
-put-two-requires-2 c κs = omega arith
-
-add-put-four-2 : tie.Need-add-put-four-2 Inv-loop μ-loop
-add-put-four-2 c = omega arith
-
-mul-put-four : tie.Need-mul-put-four Inv-loop μ-loop
-mul-put-four c = omega arith
-
-add-put-four-3 : tie.Need-add-put-four-3 Inv-loop μ-loop
-add-put-four-3 c = omega arith
-
-put-four-requires-2 : tie.Need-put-four-requires-2 Inv-loop μ-loop
-put-four-requires-2 c κs = omega arith
+put-send-requires : tie.Need-put-send-requires Inv-loop μ-loop
+put-send-requires c κs = omega arith
 
 add-late : tie.Need-add-late Inv-loop μ-loop
 add-late c = omega arith
@@ -104,13 +76,13 @@ loop-less : tie.Need-loop-less Inv-loop μ-loop
 loop-less c = omega arith
 
 loop-again : tie.Need-loop-again Inv-loop μ-loop
-loop-again c = let few = c .before .before .before .before .before .before .before .before .before .before .before .before .before .before .before .before .before .before .before .before .before .before .before .before .hops-of .ensures in let hi = c .before .before .before .before .before .before .before .before .before .hop-of2 .ensures in let fr = c .before .before .before .before .before .before .before .before .from-router2 .ensures in let inv = c .before .before .before .before .before .before .before .before .before .before .before .loop .inv in let a = c .before .before .before .before .before .before .put-two2 .ensures in let b = c .before .before .put-four2 .ensures in (omega arith, omega arith, omega arith, omega (arith, a .long, b .long), omega arith, inp-next (omega arith) (omega arith) hi fr (inv .5) (inv .7) a b, omega arith, late-next (omega arith) (omega arith) hi fr (inv .5) (inv .7) a b, λ old w. writing-more (omega arith) (omega arith) hi fr (inv .5) (inv .7) a b old (inv .8 old w))
+loop-again c = let hi = c .before .before .before .before .before .before .before .before .before .hop-of2 .ensures in let fr = c .before .before .before .before .before .before .before .before .from-router2 .ensures in let inv = c .before .before .before .before .before .before .before .before .before .before .before .loop .inv in let a = c .before .before .before .before .before .before .put-use2 .ensures in let b = c .before .before .put-send .ensures in let few = c .before .before .before .before .before .before .before .before .before .before .before .before .before .before .before .before .before .before .before .before .before .before .before .before .hops-of .ensures in (omega arith, omega arith, omega arith, omega (arith, a .long, b .long), omega arith, inp-next (omega arith) (omega arith) hi fr (inv .5) (inv .7) a b, omega arith, late-next (omega arith) (omega arith) hi fr (inv .5) (inv .7) a b, λ old w. writing-more (omega arith) (omega arith) hi fr (inv .5) (inv .7) a b old (inv .8 old w))
 
 same-length : tie.Need-same-length Inv-loop μ-loop
 same-length c = omega arith
 
 returns : tie.Need-returns Inv-loop μ-loop
-returns c = writing-all (c .before .before .before .before .before .before .before .before .before .before .before .before .before .before .hops-of .ensures) (omega arith) (c .before .loop .inv .8 _ (writing-none (c .before .before .before .before .before .before .before .before .before .before .before .before .before .cycle-of .ensures) (c .before .before .before .before .before .before .before .before .before .before .before .before .demand-of .ensures) (c .before .before .before .before .before .before .before .before .before .before .before .before .before .before .hops-of .ensures) (c .before .before .before .before .before .before .before .hop-of .ensures) (c .before .before .before .before .before .before .from-router .ensures) (c .before .before .before .before .before .before .before .before .before .before .put-four .ensures) (c .before .before .before .before .put-two .ensures)))
+returns c = writing-all (c .before .before .before .before .before .before .before .before .before .before .before .before .before .before .hops-of .ensures) (omega arith) (c .before .loop .inv .8 _ (writing-none (c .before .before .before .before .before .before .before .before .before .before .before .before .before .cycle-of .ensures) (c .before .before .before .before .before .before .before .before .before .before .before .before .demand-of .ensures) (c .before .before .before .before .before .before .before .before .before .before .before .before .before .before .hops-of .ensures) (c .before .before .before .before .before .before .before .hop-of .ensures) (c .before .before .before .before .before .before .from-router .ensures) (c .before .before .before .before .before .before .before .before .before .before .put-counts .ensures) (c .before .before .before .before .put-use .ensures)))
 
 pub put-circuit-spec : {M : Type 1} → statement M
 put-circuit-spec =
@@ -121,27 +93,18 @@ put-circuit-spec =
     hops-of-requires
     cycle-of-requires
     demand-of-requires
-    mul-base
-    add-base
-    add-put-four
-    put-four-requires
+    add-put-counts
+    put-counts-requires
     hop-of-requires
     from-router-requires
-    add-put-two
-    add-put-two-2
-    put-two-requires
+    add-put-use
+    put-use-requires
     loop-holds
     hop-of-requires-2
     from-router-requires-2
-    add-put-two-3
-    add-put-two-4
-    mul-put-two
-    add-put-two-5
-    put-two-requires-2
-    add-put-four-2
-    mul-put-four
-    add-put-four-3
-    put-four-requires-2
+    add-put-use-2
+    put-use-requires-2
+    put-send-requires
     add-late
     add-j
     loop-less

@@ -14,7 +14,7 @@ use borrow.Fn.PlainCycle.{Measures, is, falls, and}
 use Rattle.model.specs.Sizes.{cycleMost}
 use Rattle.num_mask.specs.Bits.{offsets}
 use Rattle.num_mask.proofs.Laws.{offsets-more}
-use Rattle.plan.specs.Plan.{circuitsIn, cycleIn, demandIn, Fit}
+use Rattle.plan.specs.Plan.{circuitsIn, cycleIn, demandIn, InBounds}
 use Rattle.plan.proofs.circuits.Reads as circuits-reads
 use Rattle.plan.proofs.cycle.Reads as cycle-reads
 use Rattle.plan.proofs.demand.Reads as demand-reads
@@ -106,7 +106,7 @@ module _ (t : ℕ) where
   abbrev AtCell : Type 0
   AtCell = walk-lts.Else2 (walk-calls t) (walk-at t) walk.Post walk-Inv-loop walk-μ-loop
 
-  fit-here : (c : walk-lts.Start (walk-calls t) (walk-at t) walk.Post walk-Inv-loop walk-μ-loop) → Fit (c .args .p .now) (c .args .at .circuit)
+  fit-here : (c : walk-lts.Start (walk-calls t) (walk-at t) walk.Post walk-Inv-loop walk-μ-loop) → InBounds (c .args .p .now) (c .args .at .circuit)
   fit-here c = c .pre .1 .0 .plan .fit (c .args .at .circuit) (c .pre .1 .1 .circuit)
 
   -- the cells up to the next one can only be skipped

@@ -1,11 +1,11 @@
--- `line_series::residues` meets its contract: each offset of the mask is still to be taken, or was marked modulo g. Assumes nothing.
+-- `line_served::residues` meets its contract: each offset of the mask is still to be taken, or was marked modulo g. Assumes nothing.
 use native.Mathlib.Nat.{mod-lt}
 use native.Mathlib.Omega.{arith}
 use borrow.Author.Needs.{needs}
 use Rattle.num_mask.proofs.Laws.{lowest-less}
-use Rattle.line_series.proofs.Serving.{Folding, folding-none, folding-more, folding-all}
-use Rattle.line_series.proofs.residues.Statement.{statement}
-use Rattle.line_series.proofs.residues.Tie as tie
+use Rattle.line_served.proofs.Serving.{Folding, folding-none, folding-more, folding-all}
+use Rattle.line_served.proofs.residues.Statement.{statement}
+use Rattle.line_served.proofs.residues.Tie as tie
 
 abbrev Inv-loop : tie.InvT-loop
 Inv-loop mask g acc₀ rest₀ acc rest = Folding mask g acc rest

@@ -1,7 +1,7 @@
--- `line_series::refold` meets its contract. Assumes nothing.
+-- `line_served::refold` meets its contract. Assumes nothing.
 use borrow.Author.Needs.{needs}
-use Rattle.line_series.proofs.refold.Statement.{statement}
-use Rattle.line_series.proofs.refold.Tie as tie
+use Rattle.line_served.proofs.refold.Statement.{statement}
+use Rattle.line_served.proofs.refold.Tie as tie
 
 returns : tie.Need-returns
 returns c = rw (c .if1 .taken) at (c .before .pre .0)

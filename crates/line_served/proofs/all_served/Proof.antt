@@ -1,8 +1,8 @@
--- `line_series::all_served` meets its contract. Assumes nothing.
-use Rattle.line_series.proofs.Serving.{served-at}
+-- `line_served::all_served` meets its contract. Assumes nothing.
+use Rattle.line_served.proofs.Serving.{served-at}
 use borrow.Author.Needs.{needs}
-use Rattle.line_series.proofs.all_served.Statement.{statement}
-use Rattle.line_series.proofs.all_served.Tie as tie
+use Rattle.line_served.proofs.all_served.Statement.{statement}
+use Rattle.line_served.proofs.all_served.Tie as tie
 
 port-requires : tie.Need-port-requires
 port-requires c κs = search needs

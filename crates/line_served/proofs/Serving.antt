@@ -23,8 +23,9 @@ use Rattle.file_table.specs.Parts.{Is}
 use Rattle.plan.specs.Plan.{cycleIn, portIn, outIn, sentIn}
 use Rattle.line_chains.specs.Chains.{lineIn, has, linesIn, firstIn, afterIn, Linked}
 use Rattle.line_chains.proofs.Chains.{T-false, Next}
-use Rattle.line_series.specs.Judging.{coversOf, meetsAt, partAt, oneOf, againAt, metBy, faultAt, hopFault, Folds, Served, AllServed}
+use Rattle.line_series.specs.Judging.{coversOf, meetsAt, partAt, oneOf, againAt, metBy, faultAt, hopFault}
+use Rattle.line_served.specs.Serving.{Folds, MaskServed, AllServed}
 use Rattle.line_series.proofs.Walking.{agrees-here, agrees-same, covers-here, meet-has, and-false}
 
 module _ (t : List ℕ) (lines port cycle after out mask : ℕ) where
   abbrev meet : ℕ → ℕ → Bool
@@ -228,14 +229,14 @@ module _ (t : List ℕ) (lines port cycle after out mask : ℕ) where
         )
         refl
 
-  pub serving-all : (n met m : ℕ) → lines ≡ n → lines ≤ m → Serving met m → met ≡ mask → Served t n port cycle after out mask
+  pub serving-all : (n met m : ℕ) → lines ≡ n → lines ≤ m → Serving met m → met ≡ mask → MaskServed t n port cycle after out mask
   serving-all n met m e h g s =
       let all : m ≡ lines = omega (arith, g .high) in
       rw (← e) (record { each = λ a w c j. once-fine a (rw all at (g .once a (rw s w))) c j })
 
 -- as the numbers of a plan
 pub served-at : {p t : List ℕ} {lines c j mask port cycle after out : ℕ} → port ≡ portIn p c j → cycle ≡ cycleIn p c → after ≡ sentIn p c j → out ≡ outIn p c j
-    → Served t lines port cycle after out mask → AllServed p mask t lines c j
+    → MaskServed t lines port cycle after out mask → AllServed p mask t lines c j
 unfolding hopFault
 served-at {c = c} {j = j} e₁ e₂ e₃ e₄ s = record { each = λ a w. rw (← e₁, ← e₂, ← e₃, ← e₄) (s .each a w c j) }
 

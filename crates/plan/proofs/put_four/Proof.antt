@@ -1,8 +1,8 @@
--- `plan_fill::put_four` meets its contract. Assumes nothing.
-use Rattle.plan_fill.proofs.Loading.{four-put}
+-- `plan::put_four` meets its contract. Assumes nothing.
+use Rattle.plan.proofs.Writing.{four-put}
 use borrow.Author.Needs.{needs}
-use Rattle.plan_fill.proofs.put_four.Statement.{statement}
-use Rattle.plan_fill.proofs.put_four.Tie as tie
+use Rattle.plan.proofs.put_four.Statement.{statement}
+use Rattle.plan.proofs.put_four.Tie as tie
 
 put-two-requires : tie.Need-put-two-requires
 put-two-requires c κs = search needs

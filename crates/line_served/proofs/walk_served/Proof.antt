@@ -1,14 +1,14 @@
--- `line_series::walk_served` meets its contract. The loop's invariant: of the offsets met so far just one line meets each, and none meets the others. Assumes nothing.
+-- `line_served::walk_served` meets its contract. The loop's invariant: of the offsets met so far just one line meets each, and none meets the others. Assumes nothing.
 use Prim.Native.Nat.{_-_}
 use mathlib.Core.Path.{sym, _∙_}
 use borrow.Author.Tests.{eqb-true, not-false}
 use Rattle.model.proofs.Tests.{eq→T}
-use Rattle.line_series.specs.Judging.{Folds}
-use Rattle.line_series.proofs.Serving.{Serving, serving-none, serving-less, serving-other, serving-past, serving-on, serving-all, folds-nothing}
+use Rattle.line_served.specs.Serving.{Folds}
+use Rattle.line_served.proofs.Serving.{Serving, serving-none, serving-less, serving-other, serving-past, serving-on, serving-all, folds-nothing}
 use borrow.Author.Needs.{needs}
 use native.Mathlib.Omega.{arith}
-use Rattle.line_series.proofs.walk_served.Statement.{statement}
-use Rattle.line_series.proofs.walk_served.Tie as tie
+use Rattle.line_served.proofs.walk_served.Statement.{statement}
+use Rattle.line_served.proofs.walk_served.Tie as tie
 
 abbrev Inv-loop : tie.InvT-loop
 Inv-loop t ch port cycle after out mask lines met₀ modulus₀ folded₀ line₀ met modulus folded line = Serving t lines port cycle after out mask met line × Folds mask modulus folded

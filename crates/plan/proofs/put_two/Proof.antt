@@ -1,10 +1,10 @@
--- `plan_fill::put_two` meets its contract. Assumes nothing.
+-- `plan::put_two` meets its contract. Assumes nothing.
 use lib.ListN.{length-set}
-use Rattle.plan_fill.proofs.Loading.{two-put}
+use Rattle.plan.proofs.Writing.{two-put}
 use borrow.Author.Needs.{needs}
 use native.Mathlib.Omega.{arith}
-use Rattle.plan_fill.proofs.put_two.Statement.{statement}
-use Rattle.plan_fill.proofs.put_two.Tie as tie
+use Rattle.plan.proofs.put_two.Statement.{statement}
+use Rattle.plan.proofs.put_two.Tie as tie
 
 narrow-requires : tie.Need-narrow-requires
 narrow-requires c κs = search needs

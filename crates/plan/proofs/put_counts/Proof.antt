@@ -1,0 +1,24 @@
+-- `plan::put_counts` meets its contract. Assumes nothing.
+use native.Mathlib.Omega.{arith}
+use borrow.Author.Needs.{needs}
+use Rattle.plan.proofs.put_counts.Statement.{statement}
+use Rattle.plan.proofs.put_counts.Tie as tie
+
+mul-put-four : tie.Need-mul-put-four
+mul-put-four c = omega arith
+
+add-put-four : tie.Need-add-put-four
+add-put-four c = omega arith
+
+put-four-requires : tie.Need-put-four-requires
+put-four-requires c κs = omega arith
+
+same-length : tie.Need-same-length
+same-length c = search needs
+
+returns : tie.Need-returns
+returns c = c .before .before .put-four .ensures
+
+pub put-counts-spec : {M : Type 1} → statement M
+put-counts-spec =
+    tie.close (tie.spec mul-put-four add-put-four put-four-requires same-length returns)
