@@ -20,11 +20,20 @@ use Rattle.num_mask.specs.Bits.{offsets}
 abbrev pub usesMost : ℕ
 usesMost = suc hopsMost
 
+abbrev pub usesAt : ℕ
+usesAt = 4
+
+abbrev pub useSize : ℕ
+useSize = 2
+
 abbrev pub sendsAt : ℕ
-sendsAt = 4 + 2 * usesMost
+sendsAt = usesAt + useSize * usesMost
+
+abbrev pub sendSize : ℕ
+sendSize = 4
 
 abbrev pub circuitSize : ℕ
-circuitSize = sendsAt + 4 * hopsMost
+circuitSize = sendsAt + sendSize * hopsMost
 
 abbrev pub planSize : ℕ
 planSize = 1 + circuitSize * circuitsMost
@@ -34,10 +43,10 @@ abbrev pub circuitAt : ℕ → ℕ
 circuitAt c = 1 + c * circuitSize
 
 abbrev pub useAt : ℕ → ℕ → ℕ
-useAt c k = circuitAt c + 4 + k * 2
+useAt c k = circuitAt c + usesAt + k * useSize
 
 abbrev pub sendAt : ℕ → ℕ → ℕ
-sendAt c j = circuitAt c + sendsAt + j * 4
+sendAt c j = circuitAt c + sendsAt + j * sendSize
 
 module _ (p : List ℕ) where
   abbrev pub circuitsIn : ℕ
