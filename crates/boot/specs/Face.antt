@@ -1,27 +1,17 @@
 -- What a call from C hands back: the number, and the details in an area of their own. Assumes nothing: these are definitions.
-use Prim.Native.Nat.{ℕ, _/_, _%_}
+use Prim.Native.Nat.{ℕ}
 use mathlib.Core.Path.{_≡_}
 use mathlib.Core.Bool.{cond}
-use mathlib.Core.List.{List, [], _∷_, _++_}
+use mathlib.Core.List.{List}
 use lib.Dec.{eqb}
 use lib.ListN.{length}
-use Rattle.model.specs.Answers.{Told, told}
+use Rattle.model.specs.Answers.{told}
 use Rattle.model.specs.Jobs.{Call, resultOf}
+use Rattle.call_tell.specs.Telling.{detailsSize, detailBytes}
 
--- the area of the details has this length
-abbrev pub detailsSize : ℕ
-detailsSize = 16
-
--- what is returned where it has another
+-- what is returned where the area of the details has another length
 abbrev pub tooShort : ℕ
 tooShort = 17
-
--- a number in four bytes, little-endian
-abbrev pub long : ℕ → List ℕ
-long n = n % 256 ∷ n / 256 % 256 ∷ n / 65536 % 256 ∷ n / 16777216 % 256 ∷ []
-
-abbrev pub detailBytes : Told → List ℕ
-detailBytes t = long (t .first) ++ (long (t .second) ++ (long (t .third) ++ long (t .fourth)))
 
 pub record Faced : Type 0 where
   pub number : ℕ

@@ -9,7 +9,7 @@ use Rattle.plan_refusal.specs.Found.{nothing}
 use Rattle.plan_refusal.specs.declared.Refusal.{Refusal}
 use Rattle.plan_refusal.proofs.Firsts.{nothing-none, told-some}
 use Rattle.line_chains.specs.Chains.{linesIn, Chained}
-use Rattle.clash_first.specs.Held.{FirstIs}
+use Rattle.clash_first.specs.First.{FirstIs}
 use Rattle.line_check.specs.Checks.{LinesFaultIs}
 use Rattle.call_verify.specs.Verify.{FaultIs}
 

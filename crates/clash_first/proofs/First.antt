@@ -1,16 +1,16 @@
 -- Where a plan first clashes: what loops over pairs, slots and resources have passed. Assumes nothing.
 use Prim.Native.Nat.{ℕ, zero, _+_, _*_, _≤_, _<_}
-use mathlib.Core.Path.{_≡_, refl, sym, ap₂, _∙_}
+use mathlib.Core.Path.{_≡_, refl, sym, _∙_}
 use mathlib.Core.Logic.{_⊎_, inl, inr, _≢_}
-use mathlib.Core.Bool.{Bool, true, false}
+use mathlib.Core.Bool.{Bool, true, false, not}
 use mathlib.Core.List.{List}
 use mathlib.Core.Option.{none, some}
-use native.Mathlib.Nat.{mul-le-mul}
 use native.Mathlib.Omega.{arith}
 use native.Mathlib.Decide.{decLt}
+use borrow.Author.Tests.{not-true}
 use lib.ListN.{length}
 use lib.Dec.{T}
-use Rattle.model.specs.Sizes.{cycleMost, resourcesMost}
+use Rattle.model.specs.Sizes.{resourcesMost}
 use Rattle.model.specs.Tests.{_∈_}
 use Rattle.model.specs.Network.{Request, Use}
 use Rattle.model.specs.Holding.{Booking, Holds, Clash, FirstClash, booking, both?, clashes?, clashFault}
@@ -20,9 +20,9 @@ use Rattle.model.proofs.Divisor.{wrap}
 use Rattle.model.proofs.Clashing.{holds→, →holds, →clashes, turned, Holds-at}
 use Rattle.model.proofs.Sound.{uses-small}
 use Rattle.model.proofs.Checking.{clash-none, clash-first}
-use Rattle.plan.specs.Plan.{circuitsIn, cycleIn, bookingIn, Booked, InBounds}
+use Rattle.plan.specs.Plan.{circuitsIn, bookingIn, Booked, InBounds}
 use Rattle.plan.proofs.Laws.{booking-is}
-use Rattle.clash_first.specs.Held.{SlotsOf}
+use Rattle.clash_held.specs.Held.{SlotsOf}
 
 -- ---- two circuits
 
@@ -43,12 +43,12 @@ module _ {p q : Booking} where
   pub whats-none : {t : ℕ} → ClearWhats p q t 0
   whats-none = record { none = λ v h. absurd (omega arith) }
 
-  pub whats-more : {t w : ℕ} → ClearWhats p q t w → both? p q t w ≡ false → ClearWhats p q t (w + 1)
-  whats-more {t} {w} c e = record { none = λ v h. pick v h (decLt v w) }
+  pub whats-more : {t w : ℕ} {b : Bool} → ClearWhats p q t w → b ≡ both? p q t w → b ≡ false → ClearWhats p q t (w + 1)
+  whats-more {t} {w} c is f = record { none = λ v h. pick v h (decLt v w) }
     where
       pick : (v : ℕ) → v < w + 1 → Dec (v < w) → both? p q t v ≡ false
       pick v h (yes l) = c .none v l
-      pick v h (no l) = let s : v ≡ w = omega arith in rw s e
+      pick v h (no l) = let s : v ≡ w = omega arith in rw s (sym is ∙ f)
 
   pub slots-none : ClearSlots p q 0
   slots-none = record { none = λ s h. absurd (omega arith) }
@@ -96,20 +96,13 @@ module _ {p q : Booking} where
 -- ---- two circuits of a plan
 
 module _ (p m : List ℕ) (c e : ℕ) (fit-c : InBounds p c) (fit-e : InBounds p e) where
-  pub plan-skip : clashes? (bookingIn p m c) (bookingIn p m e) ≡ false → ClearPair (bookingIn p m c) (bookingIn p m e)
+  pub plan-skip : {b : Bool} → b ≡ clashes? (bookingIn p m c) (bookingIn p m e) → not b ≡ true → ClearPair (bookingIn p m c) (bookingIn p m e)
   unfolding bookingIn
-  plan-skip f = pair-skip {p = bookingIn p m c} {q = bookingIn p m e} (fit-c .cycle .low) (fit-e .cycle .low) f
+  plan-skip {b} is h = pair-skip {p = bookingIn p m c} {q = bookingIn p m e} (fit-c .cycle .low) (fit-e .cycle .low) (sym is ∙ not-true b h)
 
   pub plan-all : {t x : ℕ} → ClearSlots (bookingIn p m c) (bookingIn p m e) t → SlotsOf p c e x → x ≤ t → ClearPair (bookingIn p m c) (bookingIn p m e)
   unfolding bookingIn
   plan-all clear is all = slots-all {p = bookingIn p m c} {q = bookingIn p m e} clear (rw (is .is) at all)
-
--- their product is small
-pub slots-are : {p : List ℕ} {c e x y : ℕ} → InBounds p c → InBounds p e → x ≡ cycleIn p c → y ≡ cycleIn p e → SlotsOf p c e (x * y)
-slots-are {p} {c} {e} {x} {y} fc fe is-x is-y = record {
-  is = ap₂ (λ a b. a * b) is-x is-y;
-  few = mul-le-mul {n₁ = x} {m₁ = y} {n₂ = cycleMost} {m₂ = cycleMost} (rw is-x (fc .cycle .high)) (rw is-y (fe .cycle .high));
-}
 
 -- ---- all pairs
 

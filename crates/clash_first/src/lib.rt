@@ -1,75 +1,12 @@
 // Where a plan first clashes. Assumes nothing.
-ghost use mathlib.Core.Path.{_≡_};
-ghost use Prim.Native.Nat.{_^_, _<_};
-ghost use lib.ListN.{getD};
-ghost use Rattle.model.specs.Holding.{holds?, both?, clashes?};
-ghost use Rattle.plan.specs.Plan.{cycleIn, useCount, bookingIn, InBounds, Slotted};
-ghost use Rattle.clash_sets.specs.Sets.{Collected};
-ghost use Rattle.clash_first.specs.Held.{SlotsOf, FirstIs};
+ghost use Rattle.plan.specs.Plan.{Slotted};
+ghost use Rattle.clash_first.specs.First.{FirstIs};
 use clash_sets::SETS_SIZE;
-use clash_sets::Sets;
 use model::Answer;
 use model::RESOURCES_MOST;
 use plan::Masks;
 use plan::Plan;
 use plan_refusal::Refusal;
-
-// ---- Slots.
-
-// Whether circuit c holds w in slot t.
-fn holds(p: &Plan, m: &Masks, c: usize, t: usize, w: usize) -> bool
-    requires { ⌜ InBounds (now p) c ⌝ }
-    requires { ⌜ getD (now m) c 0 < 2 ^ cycleIn (now p) c ⌝ }
-    ensures { λ r. ⌜ r ≡ holds? (bookingIn (now (p .entry)) (now (m .entry)) c) t w ⌝ }
-{
-    let d = plan::cycle(p, c);
-    let count = plan::uses(p, c);
-    for k in 0..count {
-        if plan::what(p, c, k) != w {
-            continue;
-        }
-        let a = num_cyclic::difference(d, t, plan::after(p, c, k));
-        if num_mask::has(m[c], a as u32) {
-            return true;
-        }
-    }
-    false
-}
-
-// Whether circuits c and e both hold w in slot t.
-fn both_hold(p: &Plan, m: &Masks, c: usize, e: usize, t: usize, w: usize) -> bool
-    requires { ⌜ InBounds (now p) c × (getD (now m) c 0 < 2 ^ cycleIn (now p) c) ⌝ }
-    requires { ⌜ InBounds (now p) e × (getD (now m) e 0 < 2 ^ cycleIn (now p) e) ⌝ }
-    ensures { λ r. ⌜ r ≡ both? (bookingIn (now (p .entry)) (now (m .entry)) c) (bookingIn (now (p .entry)) (now (m .entry)) e) t w ⌝ }
-{
-    if !holds(p, m, c, t, w) {
-        return false;
-    }
-    holds(p, m, e, t, w)
-}
-
-// Whether circuits c and e clash: never where their sets are apart.
-fn clashes_by_sets(sets: &Sets, p: &Plan, m: &Masks, c: usize, e: usize) -> bool
-    requires { ⌜ InBounds (now p) c × InBounds (now p) e ⌝ }
-    requires { ⌜ Collected (now p) (now sets) c (useCount (now p) c) ⌝ }
-    requires { ⌜ Collected (now p) (now sets) e (useCount (now p) e) ⌝ }
-    ensures { λ r. ⌜ r ≡ clashes? (bookingIn (now (p .entry)) (now (m .entry)) c) (bookingIn (now (p .entry)) (now (m .entry)) e) ⌝ }
-{
-    if clash_sets::apart(sets, c, e) {
-        return false;
-    }
-    clash_pair::pair_clashes(p, m, c, e)
-}
-
-// ---- The plan.
-
-// The slots before both circuits come round together for certain.
-fn slots_of(p: &Plan, c: usize, e: usize) -> usize
-    requires { ⌜ InBounds (now p) c × InBounds (now p) e ⌝ }
-    ensures { λ r. ⌜ SlotsOf (now (p .entry)) c e r ⌝ }
-{
-    plan::cycle(p, c) * plan::cycle(p, e)
-}
 
 // The first clash of the circuits with the offsets of their masks: by the lower circuit, the higher, the slot and the resource.
 pub fn first_clash(p: &Plan, m: &Masks) -> Refusal
@@ -82,13 +19,13 @@ pub fn first_clash(p: &Plan, m: &Masks) -> Refusal
     let mut answer = Refusal::Nothing;
     'found: for i in 0..n {
         for j in i + 1..n {
-            if !clashes_by_sets(&sets, p, m, i, j) {
+            if !clash_held::clashes_by_sets(&sets, p, m, i, j) {
                 continue;
             }
-            let slots = slots_of(p, i, j);
+            let slots = clash_held::slots_of(p, i, j);
             for t in 0..slots {
                 for w in 0..RESOURCES_MOST {
-                    if both_hold(p, m, i, j, t, w) {
+                    if clash_held::both_hold(p, m, i, j, t, w) {
                         answer = Refusal::Told(Answer::Clash {
                             lower: i as u32,
                             higher: j as u32,

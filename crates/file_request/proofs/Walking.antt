@@ -8,14 +8,20 @@ use lib.ListN.{length}
 use borrow.Author.Tests.{ltb-false, leb-false}
 use Rattle.model.specs.Sizes.{circuitsMost, circuitKind, headSize}
 use Rattle.model.specs.Bytes.{lengthAt}
-use Rattle.model.specs.Reading.{stopped, walk, networkVerdict, circuitVerdict, requestStep, requestWalk}
+use Rattle.model.specs.Reading.{stopped, walk, stepAt, networkVerdict, circuitVerdict, requestStep, requestWalk}
 use Rattle.model.specs.declared.Fault.{Fault}
+use Rattle.model.specs.declared.Step.{Step}
 use Rattle.model.specs.declared.Verdict.{Verdict}
 use Rattle.model.specs.declared.Verdict.the-variants.{Fine, Faulty}
 use Rattle.model.proofs.Readers.{network-tests, circuit-tests, walkedBy}
 use Rattle.file_records.specs.Fields.{Word, placesOf}
 use Rattle.file_records.specs.declared.Places.{Places}
 use Rattle.file_records.proofs.Walking.{Bounded, bounded-by}
+
+-- v is the verdict on the record at p, and k the step with it
+pub step-here : (s : List ℕ) (n p : ℕ) (v : Verdict) (k : Step) → v ≡ circuitVerdict s n p → k ≡ stepAt circuitKind false v s p → k ≡ requestStep s n p
+unfolding requestStep
+step-here s n p v k ve ke = ke ∙ ap (λ (u : Verdict). stepAt circuitKind false u s p) ve
 
 pub bounded : (s : List ℕ) → Bounded circuitsMost (requestStep s) (length s)
 unfolding requestStep

@@ -1,15 +1,14 @@
 -- Laws that the proofs of this crate cite by `search`: each has the facts that are known where it is used. Assumes nothing.
 use Prim.Native.Nat.{ℕ, _+_, _≤_, _<_}
-use mathlib.Core.Path.{_≡_, refl, sym, ap, _∙_}
+use mathlib.Core.Path.{_≡_, refl, sym}
 use mathlib.Core.Bool.{Bool, true, false, not}
 use mathlib.Core.List.{List}
 use native.Mathlib.Omega.{arith}
 use borrow.Author.Tests.{lt-ltb, le-ltb, le-leb, lt-leb, eq-eqb, ne-eqb}
 use lib.Dec.{eqb}
 use Rattle.model.proofs.Tests.{not-neg}
-use Rattle.model.specs.Sizes.{cycleMost, linesMost, local, lineSize, headSize, wordEnd}
+use Rattle.model.specs.Sizes.{cycleMost, linesMost, local, lineSize, headSize}
 use Rattle.model.specs.Tests.{_and_, neg}
-use Rattle.model.specs.Bytes.{byteAt, wordAt}
 use Rattle.model.specs.Network.{Network}
 use Rattle.model.specs.Reading.{fromPlace, toPlace, have, request, badIn, badOut, lineVerdict}
 use Rattle.model.specs.declared.Fault.the-variants.{Cut, Length, Count, Line as LineFault}
@@ -18,7 +17,7 @@ use Rattle.model.specs.declared.Verdict.the-variants.{Fine, Faulty}
 use Rattle.model.proofs.Readers.{buffers-are, from-is, to-is}
 use Rattle.file_records.specs.Fields.{Byte, Word}
 use Rattle.file_records.proofs.Laws.{tests}
-use Rattle.file_table.specs.Parts.{lineNumbers, lineStart, Is}
+use Rattle.file_table.specs.Parts.{lineNumbers}
 
 -- ---- the ports of a line: `buffers` and `end` are what was read of the request
 
@@ -114,12 +113,3 @@ module _ (net : Network) (s : List ℕ) (n p : ℕ) where
       unfolding lineVerdict lineNumbers neg
       line-rest h router period slot spare inp out v r d t z i o e =
           rw (lt-leb linesMost n few, ← w .is, eq-eqb len lineSize size, le-ltb (have s p) (headSize + len) h, ← r .is, ← d .is, ← t .is, ← z .is, ← i .is, ← o .is) e
-
--- ---- the parts of line m, which starts at p
-
-module _ (s : List ℕ) (m i p r : ℕ) (e : p ≡ lineStart m) where
-  pub byte-here : Byte s (p + i) r → Is (byteAt s (lineStart m + i)) 256 r
-  byte-here b = record { is = b .is ∙ ap (λ (k : ℕ). byteAt s (k + i)) e; small = b .small }
-
-  pub word-here : Word s (p + i) r → Is (wordAt s (lineStart m + i)) wordEnd r
-  word-here w = record { is = w .is ∙ ap (λ (k : ℕ). wordAt s (k + i)) e; small = w .small }

@@ -1,12 +1,10 @@
-// Reads a table file in place: each line that passes has the same size, so line m starts at m times
-// that size, and nothing is stored. Assumes nothing.
+// Reads a table file in place, and stores nothing of it. Assumes nothing.
 ghost use mathlib.Core.Path.{_≡_};
-ghost use Prim.Native.Nat.{_+_, _≤_, _<_};
+ghost use Prim.Native.Nat.{_≤_, _<_};
 ghost use lib.ListN.{length};
-ghost use Rattle.model.specs.Sizes.{linesMost, wordEnd};
-ghost use Rattle.model.specs.Bytes.{byteAt, wordAt};
-ghost use Rattle.model.specs.Reading.{request, badIn, badOut, lineVerdict, tableStep, lineAt};
-ghost use Rattle.file_table.specs.Parts.{linedOf, lineNumbers, lineStart, Is};
+ghost use Rattle.model.specs.Sizes.{wordEnd};
+ghost use Rattle.model.specs.Reading.{request, badIn, badOut, lineVerdict, tableStep};
+ghost use Rattle.file_table.specs.Parts.{linedOf, lineNumbers};
 use file_records::Ending;
 use file_records::byte;
 use file_records::from_of;
@@ -17,7 +15,6 @@ use model::CYCLE_MOST;
 use model::Fault;
 use model::HEAD_SIZE;
 use model::IN_AT;
-use model::LINE_BYTES;
 use model::LINE_KIND;
 use model::LINE_SIZE;
 use model::LINE_SPARE_AT;
@@ -164,63 +161,4 @@ pub fn read(req: &[u8], s: &[u8]) -> Lined
             }
         }
     }
-}
-
-// The byte where line m starts.
-fn place(m: usize) -> usize
-    requires { ⌜ m < linesMost ⌝ }
-    ensures { λ r. ⌜ r ≡ lineStart m ⌝ }
-{
-    LINE_BYTES * m
-}
-
-// The byte at i of line m, and the number of the two bytes there.
-fn byte_of(s: &[u8], m: usize, i: usize) -> usize
-    requires { ⌜ (m < linesMost) × (i < wordEnd) ⌝ }
-    ensures { λ r. ⌜ Is (byteAt (now (s .entry)) (lineStart m + i)) 256 r ⌝ }
-{
-    byte(s, place(m) + i)
-}
-
-fn word_of(s: &[u8], m: usize, i: usize) -> usize
-    requires { ⌜ (m < linesMost) × (i < wordEnd) ⌝ }
-    ensures { λ r. ⌜ Is (wordAt (now (s .entry)) (lineStart m + i)) wordEnd r ⌝ }
-{
-    word(s, place(m) + i)
-}
-
-// The parts of line m.
-pub fn router_of(s: &[u8], m: usize) -> usize
-    requires { ⌜ m < linesMost ⌝ }
-    ensures { λ r. ⌜ Is (lineAt (now (s .entry)) (lineStart m) .router) 256 r ⌝ }
-{
-    byte_of(s, m, ROUTER_AT)
-}
-
-pub fn period_of(s: &[u8], m: usize) -> usize
-    requires { ⌜ m < linesMost ⌝ }
-    ensures { λ r. ⌜ Is (lineAt (now (s .entry)) (lineStart m) .period) 256 r ⌝ }
-{
-    byte_of(s, m, PERIOD_AT)
-}
-
-pub fn slot_of(s: &[u8], m: usize) -> usize
-    requires { ⌜ m < linesMost ⌝ }
-    ensures { λ r. ⌜ Is (lineAt (now (s .entry)) (lineStart m) .slot) 256 r ⌝ }
-{
-    byte_of(s, m, SLOT_AT)
-}
-
-pub fn in_of(s: &[u8], m: usize) -> usize
-    requires { ⌜ m < linesMost ⌝ }
-    ensures { λ r. ⌜ Is (lineAt (now (s .entry)) (lineStart m) .inp) wordEnd r ⌝ }
-{
-    word_of(s, m, IN_AT)
-}
-
-pub fn out_of(s: &[u8], m: usize) -> usize
-    requires { ⌜ m < linesMost ⌝ }
-    ensures { λ r. ⌜ Is (lineAt (now (s .entry)) (lineStart m) .out) wordEnd r ⌝ }
-{
-    word_of(s, m, OUT_AT)
 }

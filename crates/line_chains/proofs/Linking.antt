@@ -10,7 +10,7 @@ use lib.ListN.{length, getD, set, length-set}
 use lib.Seq.{getD-set-same, getD-set-other}
 use mathlib.Core.Bool.{true}
 use Rattle.model.specs.Sizes.{local, inportOf, resourcesMost}
-use Rattle.file_table.specs.Parts.{Is}
+use Rattle.file_line.specs.Parts.{Is}
 use Rattle.line_chains.specs.Chains.{nextIn, portAt, lineIn, has, Tabled, nextAt, chainsSize, linesIn, firstIn, afterIn, Chained, Linked}
 use Rattle.line_chains.proofs.Chains.{Next, next-is, next-end, next-here, next-skip}
 

@@ -10,7 +10,7 @@ use Rattle.model.specs.Tests.{least}
 use Rattle.model.specs.Lines.{Line}
 use Rattle.model.specs.Reading.{lineAt}
 use Rattle.num_divisor.specs.Common.{Cycle}
-use Rattle.file_table.specs.Parts.{lineStart}
+use Rattle.file_line.specs.Parts.{lineStart}
 use Rattle.plan.specs.Plan.{portOf}
 
 -- the first number from i on, below n, that passes; and n where there is none

@@ -39,9 +39,9 @@ fn port_at(t: &[u8], m: usize) -> usize
     requires { ⌜ m < linesMost ⌝ }
     ensures { λ r. ⌜ r ≡ portAt (now (t .entry)) m ⌝ }
 {
-    let inp = file_table::in_of(t, m);
+    let inp = file_line::in_of(t, m);
     if inp == LOCAL {
-        let router = file_table::router_of(t, m);
+        let router = file_line::router_of(t, m);
         return BUFFERS_MOST + router;
     }
     inp

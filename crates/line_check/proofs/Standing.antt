@@ -22,8 +22,8 @@ use Rattle.model.proofs.Tests.{and→, →and, eq→eqb, least-is, least-unique
 use Rattle.model.specs.Sound.{SoundRequest}
 use Rattle.model.proofs.Sound.{hop-small}
 use Rattle.model.proofs.Readers.{table-sound}
-use Rattle.file_table.specs.Parts.{LineIn, LeadsTo, GoodLine}
-use Rattle.file_table.proofs.Parts.{line-is, line-good}
+use Rattle.file_line.specs.Parts.{LineIn, LeadsTo, GoodLine}
+use Rattle.file_line.proofs.Parts.{line-is, line-good}
 use Rattle.plan.specs.Plan.{circuitsIn, sendCount, portOf, portIn, sendIn, Stands}
 use Rattle.plan.proofs.Laws.{cycle-is, send-count-is, send-is, port-is}
 use Rattle.line_chains.specs.Chains.{portAt, lineIn, has, Tabled}

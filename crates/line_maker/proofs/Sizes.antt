@@ -1,6 +1,6 @@
 -- How many bytes the lines of a table have; and that they are few. Assumes nothing.
 use Prim.Native.Nat.{ℕ, zero, suc, _+_, _*_, _/_, _%_, _≤_}
-use mathlib.Core.Path.{_≡_, refl, ap, _∙_}
+use mathlib.Core.Path.{_≡_, ap, _∙_}
 use mathlib.Core.Bool.{Bool, true, false, cond}
 use mathlib.Core.List.{List, [], _∷_, map}
 use native.Mathlib.Nat.{mul-le-mul}
@@ -9,12 +9,13 @@ use lib.Dec.{eqb}
 use lib.ListN.{length, getD, length-append}
 use Rattle.model.specs.Sizes.{cycleMost, hopsMost, headSize, lineSize}
 use Rattle.model.specs.Tests.{upTo, joined, sum}
-use Rattle.model.specs.Bytes.{recordOf}
 use Rattle.model.proofs.Tests.{length-upTo, upTo-same}
 use Rattle.num_mask.specs.Bits.{places, offsets}
 use Rattle.plan.specs.Plan.{circuitsIn, sendCount, InBounds}
 use Rattle.file_writer.proofs.Lists.{map-upTo, joined-length, sum-more}
-use Rattle.line_maker.specs.Files.{sendBytes, offsetBytes, circuitBytes, linesSize, tableSize}
+use Rattle.line_record.specs.Record.{sendBytes}
+use Rattle.line_record.proofs.Record.{send-length}
+use Rattle.line_maker.specs.Files.{offsetBytes, circuitBytes, linesSize, tableSize}
 
 -- ---- a mask has few offsets
 
@@ -47,13 +48,9 @@ even-upTo : (n : ℕ) (f : ℕ → List ℕ) (k : ℕ) → ((i : ℕ) → length
 even-upTo n f k e = rw (← map-upTo f n (λ i. i)) (even-map f (upTo n (λ i. i)) k e ∙ ap (λ x. x * k) (length-upTo n _))
 
 module _ (p : List ℕ) (c : ℕ) where
-  pub send-length : (a j : ℕ) → length (sendBytes p c a j) ≡ headSize + lineSize
-  unfolding sendBytes recordOf
-  send-length a j = refl
-
   offset-length : (a : ℕ) → length (offsetBytes p c a) ≡ sendCount p c * (headSize + lineSize)
   unfolding offsetBytes
-  offset-length a = even-upTo (sendCount p c) (sendBytes p c a) (headSize + lineSize) (send-length a)
+  offset-length a = even-upTo (sendCount p c) (sendBytes p c a) (headSize + lineSize) (send-length p c a)
 
   circuit-length : (mask : ℕ) → length (circuitBytes p c mask) ≡ length (offsets mask) * sendCount p c * (headSize + lineSize)
   unfolding circuitBytes

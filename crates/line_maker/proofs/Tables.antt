@@ -1,44 +1,37 @@
 -- The table by a plan and its masks is the model's table for the request and the offsets that they stand for. Assumes nothing.
-use Prim.Native.Nat.{ℕ, _+_, _%_, _<_}
-use mathlib.Core.Path.{_≡_, sym, ap, ap₂, _∙_}
+use Prim.Native.Nat.{ℕ, _<_}
+use mathlib.Core.Path.{_≡_, sym, ap, _∙_}
 use mathlib.Core.List.{List, [], _++_}
 use native.Mathlib.Omega.{arith}
 use lib.ListN.{length}
-use Rattle.model.specs.Sizes.{lineKind, endKind}
+use Rattle.model.specs.Sizes.{endKind}
 use Rattle.model.specs.Tests.{upTo, joined}
 use Rattle.model.specs.Bytes.{recordOf}
-use Rattle.model.specs.Network.{Request, Send, circuitOf, hops}
+use Rattle.model.specs.Network.{Request, circuitOf, hops}
 use Rattle.model.specs.Holding.{offsetsOf}
-use Rattle.model.specs.Lines.{series, offsetOf, lineFor, linesFor}
-use Rattle.model.specs.Jobs.{lineBody, tableBytes}
+use Rattle.model.specs.Lines.{offsetOf, linesFor}
+use Rattle.model.specs.Jobs.{tableBytes}
 use Rattle.model.proofs.Tests.{upTo-same}
-use Rattle.plan.specs.Plan.{circuitsIn, sendCount, sendIn, Booked}
-use Rattle.plan.proofs.Laws.{cycle-is, send-count-is, send-is}
+use Rattle.plan.specs.Plan.{circuitsIn, sendCount, Booked}
+use Rattle.plan.proofs.Laws.{send-count-is}
 use Rattle.file_writer.proofs.Files.{file-length}
 use Rattle.file_writer.proofs.Lists.{map-upTo, map-by-number, joined-map}
-use Rattle.line_maker.specs.Files.{lineRecord, sendBytes, offsetBytes, circuitBytes, tableSize}
+use Rattle.line_record.proofs.Record.{ofSend, send-line}
+use Rattle.line_maker.specs.Files.{offsetBytes, circuitBytes, tableSize}
 use Rattle.line_maker.proofs.Sizes.{partOf, parts, table-length}
 
 module _ {q : Request} {assigned : List (List ℕ)} {p m : List ℕ} (b : Booked q assigned p m) where
-  -- what the request has for a send of circuit c, for an offset, and for all its offsets
-  abbrev ofSend : (c a j : ℕ) → List ℕ
-  ofSend c a j = recordOf lineKind (lineBody (lineFor (series q c a j)))
-
+  -- what the request has for an offset of circuit c, and for all its offsets
   abbrev ofOffset : (c a : ℕ) → List ℕ
-  ofOffset c a = joined (upTo (hops (circuitOf q c)) (ofSend c a))
+  ofOffset c a = joined (upTo (hops (circuitOf q c)) (ofSend q c a))
 
   abbrev ofCircuit : ℕ → List ℕ
   ofCircuit c = joined (upTo (length (offsetsOf assigned c)) (λ o. ofOffset c (offsetOf assigned c o)))
 
   module _ {c : ℕ} (h : c < circuitsIn p) where
-    send-line : (a j : ℕ) → j < sendCount p c → sendBytes p c a j ≡ ofSend c a j
-    unfolding sendBytes sendIn series lineFor
-    send-line a j l =
-        ap₂ (λ (x : Send) (d : ℕ). lineRecord (x .router) d ((a + x .after) % d) (x .inp) (x .out)) (send-is (b .stands) h j l) (cycle-is (b .stands) h)
-
     offset-is : (a : ℕ) → offsetBytes p c a ≡ ofOffset c a
     unfolding offsetBytes
-    offset-is a = ap joined (upTo-same (sendCount p c) _ _ (send-line a) ∙ ap (λ n. upTo n (ofSend c a)) (send-count-is (b .stands) h))
+    offset-is a = ap joined (upTo-same (sendCount p c) _ _ (send-line b h a) ∙ ap (λ n. upTo n (ofSend q c a)) (send-count-is (b .stands) h))
 
     circuit-is : partOf p m c ≡ ofCircuit c
     unfolding circuitBytes

@@ -1,26 +1,18 @@
 -- The table that a job writes, by a plan and its masks, and what its writer tells. Assumes nothing: these are definitions.
-use Prim.Native.Nat.{ℕ, _+_, _*_, _%_}
+use Prim.Native.Nat.{ℕ, _+_, _*_}
 use mathlib.Core.List.{List, map}
 use lib.ListN.{length, getD}
-use Rattle.model.specs.Sizes.{headSize, lineSize, lineKind}
+use Rattle.model.specs.Sizes.{headSize, lineSize}
 use Rattle.model.specs.Tests.{upTo, joined, sum}
-use Rattle.model.specs.Bytes.{recordOf}
 use Rattle.model.specs.Network.{Request}
 use Rattle.model.specs.Lines.{linesFor}
-use Rattle.model.specs.Jobs.{lineBody, tableBytes}
+use Rattle.model.specs.Jobs.{tableBytes}
 use Rattle.num_mask.specs.Bits.{offsets}
-use Rattle.plan.specs.Plan.{circuitsIn, cycleIn, sendCount, routerIn, inpIn, outIn, sentIn, Booked}
+use Rattle.plan.specs.Plan.{circuitsIn, sendCount, Booked}
 use Rattle.file_writer.specs.Files.{Wrote}
+use Rattle.line_record.specs.Record.{sendBytes}
 
--- the record of a line
-abbrev pub lineRecord : (router period slot inp out : ℕ) → List ℕ
-lineRecord router period slot inp out = recordOf lineKind (lineBody (record { router = router; period = period; slot = slot; inp = inp; out = out }))
-
--- the line of send j of circuit c with offset a
-unfoldable pub sendBytes : (p : List ℕ) (c a j : ℕ) → List ℕ
-sendBytes p c a j = lineRecord (routerIn p c j) (cycleIn p c) ((a + sentIn p c j) % cycleIn p c) (inpIn p c j) (outIn p c j)
-
--- its lines of one offset, and those of the offsets of a mask
+-- the lines of circuit c for one offset, and those of the offsets of a mask
 unfoldable pub offsetBytes : (p : List ℕ) (c a : ℕ) → List ℕ
 offsetBytes p c a = joined (upTo (sendCount p c) (sendBytes p c a))
 

@@ -16,7 +16,7 @@ use Rattle.model.specs.Divisor.{gcd}
 use Rattle.model.proofs.Divisor.{gcd-step, gcd-zero}
 use Rattle.model.proofs.Tests.{eq→T, least-is, least-at, not-neg}
 use Rattle.num_divisor.specs.Common.{Cycle, Common}
-use Rattle.file_table.specs.Parts.{Is}
+use Rattle.file_line.specs.Parts.{Is}
 use Rattle.plan.specs.Plan.{cycleIn, portIn, outIn, sentIn}
 use Rattle.line_chains.specs.Chains.{lineIn, has, linesIn, firstIn, afterIn, Linked}
 use Rattle.line_series.specs.Judging.{seen, noted, Held, agreesOf, coversOf, meetsAt, partAt, oneOf, againAt, metBy, faultBy, faultAt, hopFault}

@@ -29,8 +29,8 @@ fn agrees(t: &[u8], m: usize, cycle: usize, start: usize, early: usize) -> bool
     requires { ⌜ early ≡ start % cycle ⌝ }
     ensures { λ r. ⌜ r ≡ agreesOf (now (t .entry)) cycle start m ⌝ }
 {
-    let period = file_table::period_of(t, m);
-    let slot = file_table::slot_of(t, m);
+    let period = file_line::period_of(t, m);
+    let slot = file_line::slot_of(t, m);
     if period == cycle {
         return early == slot;
     }
@@ -43,8 +43,8 @@ fn covers(t: &[u8], m: usize, cycle: usize, start: usize) -> bool
     requires { ⌜ Held (now t) m cycle ⌝ }
     ensures { λ r. ⌜ r ≡ coversOf (now (t .entry)) cycle start m ⌝ }
 {
-    let period = file_table::period_of(t, m);
-    let slot = file_table::slot_of(t, m);
+    let period = file_line::period_of(t, m);
+    let slot = file_line::slot_of(t, m);
     if cycle % period != 0 {
         return false;
     }
@@ -139,7 +139,7 @@ pub fn judge(p: &Plan, t: &[u8], ch: &Chains, c: usize, a: usize, j: usize) -> R
             line,
         });
     }
-    if file_table::out_of(t, one) != plan::out(p, c, j) {
+    if file_line::out_of(t, one) != plan::out(p, c, j) {
         let line = one as u32;
         return Refusal::Told(Answer::Astray {
             circuit,

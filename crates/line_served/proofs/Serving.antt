@@ -19,7 +19,7 @@ use Rattle.num_mask.specs.Bits.{bit, offsets, Marked, Lowest}
 use Rattle.num_mask.proofs.Laws.{bit-none, marked-kept, marked-new, offsets-in, offsets-zero}
 use Rattle.num_cyclic.specs.Ahead.{ahead}
 use Rattle.num_cyclic.proofs.Ahead.{ahead-low, ahead-only}
-use Rattle.file_table.specs.Parts.{Is}
+use Rattle.file_line.specs.Parts.{Is}
 use Rattle.plan.specs.Plan.{cycleIn, portIn, outIn, sentIn}
 use Rattle.line_chains.specs.Chains.{lineIn, has, linesIn, firstIn, afterIn, Linked}
 use Rattle.line_chains.proofs.Chains.{T-false, Next}

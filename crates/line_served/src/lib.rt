@@ -61,8 +61,8 @@ fn walk_served(
     while line < lines {
         let here = line;
         line = line_chains::next(ch, here);
-        let period = file_table::period_of(t, here);
-        let slot = file_table::slot_of(t, here);
+        let period = file_line::period_of(t, here);
+        let slot = file_line::slot_of(t, here);
         if period != cycle {
             let g = num_divisor::common(cycle, period);
             folded = refold(mask, modulus, folded, g);
@@ -80,7 +80,7 @@ fn walk_served(
         if num_mask::has(met, a) {
             return false;
         }
-        let led = file_table::out_of(t, here);
+        let led = file_line::out_of(t, here);
         if led != out {
             return false;
         }

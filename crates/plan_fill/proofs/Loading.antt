@@ -8,7 +8,7 @@ use native.Mathlib.Decide.{decLt}
 use native.Mathlib.Omega.{arith}
 use lib.ListN.{length, getD, set, length-set}
 use lib.Seq.{getD-set-same}
-use Rattle.model.specs.Sizes.{inportOf, hopsMost}
+use Rattle.model.specs.Sizes.{inportOf, hopsMost, circuitsMost, wordEnd}
 use Rattle.model.specs.Tests.{upTo}
 use Rattle.model.specs.Network.{Request, Circuit, Use, Send, uses, hopUse, send, inport, after, hops, hop, circuitOf, fromRouter}
 use Rattle.model.specs.Reading.{request}
@@ -132,6 +132,29 @@ module _ {q : Request} {c : ℕ} {old mid new : List ℕ} where
     pub inp-next : buffer ≡ inport (circuitOf q c) (j + 1)
     unfolding inport
     inp-next = rw (add-one j) (hi .is)
+
+-- the loop over the hops: n of them, of which those before j are put into their places
+abbrev pub Going : (q : Request) (c n : ℕ) (p₀ p : List ℕ) (inp late j : ℕ) → Type 0
+Going q c n p₀ p inp late j =
+    (j ≤ n) × (n ≤ hopsMost) × (c < circuitsMost) × (length p ≡ planSize) × (inp < wordEnd) × (inp ≡ inport (circuitOf q c) j) × (late ≤ j)
+    × (late ≡ after (q .network) (circuitOf q c) j) × ((old : List ℕ) → Writing q c 0 old p₀ → Writing q c j old p)
+
+pub going-next : {q : Request} {c n inp late j buffer router : ℕ} {p₀ p mid new : List ℕ} → HopsIs q c n → Going q c n p₀ p inp late j → j < n
+    → HopIs q c j buffer → FromIs q buffer router → Two p (useAt c (j + 1)) buffer late mid → Four mid (sendAt c j) router inp buffer late new
+    → Going q c n p₀ new buffer (late + 1) (j + 1)
+going-next {q} {c} {n} {inp} {late} {j} ho (low, few, at, long, small, is-inp, early, is-late, written) h hi fr a b =
+    let here : j < hops (circuitOf q c) = omega (arith, ho .is) in
+    let room : hops (circuitOf q c) ≤ hopsMost = omega (arith, ho .is) in (
+      omega arith,
+      few,
+      at,
+      b .long ∙ a .long ∙ long,
+      omega (arith, hi .small),
+      inp-next here room hi fr is-inp is-late a b,
+      omega arith,
+      late-next here room hi fr is-inp is-late a b,
+      λ old w. writing-more here room hi fr is-inp is-late a b old (written old w),
+    )
 
 pub writing-all : {q : Request} {c j n : ℕ} {old new : List ℕ} → HopsIs q c n → n ≤ j → Writing q c j old new → CircuitWritten q c old new
 unfolding circuitIn planned uses upTo

@@ -2,7 +2,7 @@
 use mathlib.Core.Path.{_≡_, sym, ap, _∙_}
 use mathlib.Core.Bool.{Bool, true, false}
 use mathlib.Core.List.{List, [], _∷_, _++_, map, map-append}
-use Prim.Native.Nat.{ℕ, _+_, _-_, _*_, _^_, _≤_, _<_}
+use Prim.Native.Nat.{ℕ, _+_, _-_, _^_, _≤_, _<_}
 use native.Mathlib.Numerals.{add-one}
 use native.Mathlib.Omega.{arith}
 use lib.ListN.{length, take, set, length-map}
@@ -65,10 +65,3 @@ ends-circuit grid p c shut a mask l old new r e listed room h =
 -- a problem stays ready where the masks change and their number does not
 pub ready-as : {p old new : List ℕ} → length new ≡ length old → Ready p old → Ready p new
 ready-as e h = record { plan = h .plan; room = omega (arith, h .room) }
-
--- the measure of a cell behind `from` is smaller, and a cell inside has one behind it or is the last
-pub cell-falls : (k : ℕ) {t from a : ℕ} → k * 64 + (cycleMost - from) ≡ t → from ≤ a → a < cycleMost → k * 64 + (cycleMost - (a + 1)) < t
-cell-falls k e h l = omega arith
-
-pub next-le : {a d : ℕ} → a < d → a + 1 ≤ d
-next-le l = omega arith

@@ -1,11 +1,13 @@
 -- A budget's cut goes through the definition piece by piece. Assumes nothing.
 use mathlib.Core.Path.{_≡_, refl, sym, ap, ap₂, _∙_, subst}
 use mathlib.Core.Bool.{Bool, true, false, cond}
-use mathlib.Core.List.{List, map}
+use mathlib.Core.List.{List, [], _∷_, map}
 use Prim.Native.Nat.{ℕ, _+_, _-_, _≤_, _<_}
 use native.Mathlib.Nat.{sub-zero}
 use native.Mathlib.Omega.{arith}
 use lib.ListN.{take}
+use types.Run.{OneOf, miss}
+use denote.Enum.Declared.{tagOf}
 use lib.Dec.{leb, leb·zero}
 use borrow.Author.Tests.{le-leb, lt-leb, leb-true, leb-false}
 use Rattle.model.specs.Search.{Walk, found, noRoom, later, choice, thenTry}
@@ -13,6 +15,7 @@ use Rattle.num_mask.specs.Bits.{offsets}
 use Rattle.slot_search.specs.Code.{cut, assigned, WalkEnds}
 use Rattle.slot_search.specs.declared.Outcome.{Outcome}
 use Rattle.slot_search.specs.declared.Outcome.the-variants.{Found, NoRoom, Over}
+use Rattle.slot_search.proofs.Outcome.{the-type}
 
 -- ---- a walk with n visits in front
 
@@ -97,11 +100,18 @@ module _ {n c : ℕ} {old : List ℕ} where
   ends-shut w l = record { answer = rw (leb·zero l, sub-zero l); kept = refl; holds = λ k e. cc }
 
   -- two choices
-  pub ends-first : {w : Walk} {l : ℕ} {new : List ℕ} {k : ℕ} (w′ : Walk) → WalkEnds w n c l old new (Found k) → WalkEnds (thenTry w w′) n c l old new (Found k)
+  ends-first : {w : Walk} {l : ℕ} {new : List ℕ} {k : ℕ} (w′ : Walk) → WalkEnds w n c l old new (Found k) → WalkEnds (thenTry w w′) n c l old new (Found k)
   ends-first {w} {l} {new} {k} w′ h = ends-same (sym (first-found l k w w′ (h .answer))) h
 
   pub ends-over : {w : Walk} {l : ℕ} {new : List ℕ} (w′ : Walk) → WalkEnds w n c l old new Over → WalkEnds (thenTry w w′) n c l old new Over
   ends-over {w} {l} w′ h = record { answer = sym (first-over l w w′ (h .answer)); kept = h .kept; holds = λ k e. cc }
+
+  -- the first came to an answer or the budget is spent, as r's tag has it
+  pub ends-answered : {w : Walk} {l : ℕ} {new : List ℕ} (w′ : Walk) (r : Outcome) → OneOf (0 ∷ 2 ∷ []) (tagOf the-type r)
+      → WalkEnds w n c l old new r → WalkEnds (thenTry w w′) n c l old new r
+  ends-answered w′ (Found k) tag h = ends-first w′ h
+  ends-answered w′ (NoRoom k) tag h = absurd (miss (0 ∷ 2 ∷ []) 1 tt tag)
+  ends-answered w′ Over tag h = ends-over w′ h
 
   pub ends-second : {w w′ : Walk} {l k : ℕ} {mid new : List ℕ} {r : Outcome}
       → WalkEnds w n c l old mid (NoRoom k) → WalkEnds w′ n c k mid new r → WalkEnds (thenTry w w′) n c l old new r

@@ -1,8 +1,6 @@
--- What the proofs of the functions use, and from a grid that is right to the definition's search. Assumes nothing.
-mod WordLaws
+-- What the proofs of the functions use. Assumes nothing.
 mod WalkLaws
 mod EndsLaws
 mod CellLaws
 mod LoopLaws
-mod ReplyLaws
-pub mod Bridge
+mod NumberLaws

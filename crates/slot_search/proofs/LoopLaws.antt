@@ -12,6 +12,8 @@ use lib.Pow.{pow-mono}
 use lib.Dec.{ltb}
 use lib.Count.{ones}
 use lib.Bits.{bitOr}
+use types.Run.{OneOf}
+use denote.Enum.Declared.{tagOf}
 use borrow.Author.Tests.{lt-ltb, le-ltb, eq-eqb, ne-eqb, eqb-true}
 use Rattle.model.specs.Sizes.{cycleMost}
 use Rattle.model.specs.Tests.{_and_, neg}
@@ -19,11 +21,13 @@ use Rattle.model.specs.Search.{Walk, choice, thenTry}
 use Rattle.num_mask.specs.Bits.{bit, offsets, Above}
 use Rattle.num_mask.proofs.Laws.{offsets-length, offsets-more}
 use Rattle.plan.specs.Plan.{circuitsIn, cycleIn, demandIn, InBounds}
-use Rattle.slot_search.specs.Code.{Inside, SkippedTo, fromCell, WalkEnds, CircuitEnds, CellEnds}
+use Rattle.slot_cells.specs.Cells.{SkippedTo}
+use Rattle.slot_search.specs.Code.{Inside, fromCell, WalkEnds, CircuitEnds, CellEnds}
 use Rattle.slot_search.specs.declared.Outcome.{Outcome}
-use Rattle.slot_search.specs.declared.Outcome.the-variants.{Found, NoRoom, Over}
+use Rattle.slot_search.specs.declared.Outcome.the-variants.{NoRoom, Over}
+use Rattle.slot_search.proofs.Outcome.{the-type}
 use Rattle.slot_search.proofs.WalkLaws.{fromTake, fromSkip, cell-split}
-use Rattle.slot_search.proofs.EndsLaws.{ends-same, ends-visit, ends-broke, ends-shut, ends-first, ends-over, ends-second}
+use Rattle.slot_search.proofs.EndsLaws.{ends-same, ends-visit, ends-broke, ends-shut, ends-answered, ends-over, ends-second}
 use Rattle.slot_search.proofs.CellLaws.{skip-no, skip-yes, ends-circuit}
 
 -- at cell a of circuit c, with the masks `now` and `left` visits to spare
@@ -154,11 +158,10 @@ module _ {grid p : List ℕ} {c from mask shut budget : ℕ} {old now : List ℕ
     split : fromCell grid p c shut before (D - a) a (offsets mask) ≡ thenTry taking (skipping now)
     split = cell-split grid p c before shut D a (offsets mask) inside
 
-    pub out-found : ones mask < N → shut / 2 ^ a % 2 ≡ 0 → (left ≡ 0 → ⊥) → {mid : List ℕ} {r : Outcome} {k : ℕ} → r ≡ Found k → Called mid r → Whole mid (Found k)
-    out-found l h z {mid} {r} {k} e g = t .goes-on mid (Found k) (ends-same (sym split) (ends-first (skipping now) (tried-by inside l h z e g)))
-
-    pub out-over : ones mask < N → shut / 2 ^ a % 2 ≡ 0 → (left ≡ 0 → ⊥) → {mid : List ℕ} {r : Outcome} → r ≡ Over → Called mid r → Whole mid Over
-    out-over l h z {mid} e g = t .goes-on mid Over (ends-same (sym split) (ends-over (skipping now) (tried-by inside l h z e g)))
+    -- the code's call came to an answer, or the budget is spent
+    pub out-answered : ones mask < N → shut / 2 ^ a % 2 ≡ 0 → (left ≡ 0 → ⊥) → {mid : List ℕ} {r : Outcome} → OneOf (0 ∷ 2 ∷ []) (tagOf the-type r)
+        → Called mid r → Whole mid r
+    out-answered l h z {mid} {r} tag g = t .goes-on mid r (ends-same (sym split) (ends-answered (skipping now) r tag (tried-by inside l h z refl g)))
 
     pub out-spent : ones mask < N → shut / 2 ^ a % 2 ≡ 0 → left ≡ 0 → Whole now Over
     out-spent l h z = t .goes-on now Over (ends-same (sym split) (ends-over (skipping now) (ends-same (sym (take-open l h)) (ends-broke on left z))))

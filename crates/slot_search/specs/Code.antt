@@ -2,11 +2,10 @@
 -- a budget. Assumes nothing: these are definitions.
 use mathlib.Core.Path.{_≡_}
 use Prim.Native.Nat.{ℕ, _+_, _-_, _^_, _<_, _≤_}
-use mathlib.Core.Bool.{true, cond}
+use mathlib.Core.Bool.{cond}
 use mathlib.Core.List.{List, [], _∷_, _++_, map}
-use lib.ListN.{length, getD, take, drop}
+use lib.ListN.{length, take, drop}
 use lib.Dec.{leb}
-use lib.Bits.{bitOr}
 use Rattle.model.specs.Tests.{neg, upTo}
 use Rattle.model.specs.Network.{Circuit}
 use Rattle.model.specs.Search.{Walk, found, noRoom, cells, search, Reply, slots, full, unfinished}
@@ -39,19 +38,6 @@ pub record Inside (p : List ℕ) (c a mask : ℕ) : Type 0 where
   pub circuit : c < circuitsIn p
   pub within : a ≤ cycleIn p c
   pub low : mask < 2 ^ a
-
--- the cells from a up to r can only be skipped: each may be, and none is free while one is wanted; where no more is wanted, those are all
-pub record SkippedTo (shut a cycle demand have r : ℕ) : Type 0 where
-  pub started : a ≤ r
-  pub within : r ≤ cycle
-  pub may : a < r → demand + r ≤ cycle + have
-  pub none : (i : ℕ) → a ≤ i → i < r → have < demand → bit shut i ≡ true
-  pub full : demand ≤ have → r ≡ cycle
-
--- the entries of a grid at base + a for each a of a list, joined bit by bit with x
-unfoldable pub gathered : (grid : List ℕ) (base x : ℕ) → List ℕ → ℕ
-gathered grid base x [] = x
-gathered grid base x (a ∷ more) = gathered grid base (bitOr x (getD grid (base + a) 0)) more
 
 -- the walk from circuit c on
 unfoldable pub fromCircuit : (grid p : List ℕ) (c : ℕ) (earlier : List (List ℕ)) → Walk

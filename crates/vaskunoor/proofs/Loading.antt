@@ -8,15 +8,19 @@ use Rattle.model.specs.Tests.{_else_, orElse}
 use Rattle.model.specs.Network.{Request}
 use Rattle.model.specs.Holding.{clashFault}
 use Rattle.model.specs.Reading.{request, assignment}
-use Rattle.model.specs.Jobs.{Contract, check, checkAssignment, requestFault, assignmentFault}
+use Rattle.model.specs.Jobs.{Call, resultOf, Result, keeps, Contract, check, checkAssignment, requestFault, assignmentFault}
 use Rattle.model.specs.declared.Answer.{Answer}
 use Rattle.model.specs.declared.Answer.the-variants.{Done}
-use Rattle.plan.specs.Plan.{Booked, Usable, Slotted}
+use Rattle.plan.specs.Plan.{Booked, Slotted}
 use Rattle.plan_refusal.specs.Found.{found}
 use Rattle.plan_refusal.specs.declared.Refusal.{Refusal}
 use Rattle.plan_refusal.specs.declared.Refusal.the-variants.{Nothing, Told}
 use Rattle.plan_load.specs.Loaded.{LoadsBoth}
-use Rattle.clash_first.specs.Held.{FirstIs}
+use Rattle.clash_first.specs.First.{FirstIs}
+
+-- an answer and an area that are a call's result
+pub met : (call : Call) {a : Answer} {out : List ℕ} → keeps out a ≡ resultOf call → Contract call a out
+met call e = record { answer = ap (λ (r : Result). r .answer) e; area = ap (λ (r : Result). r .area) e }
 
 pub else-assoc : {A : Type 0} (f g h : Option A) → f else g else h ≡ (f else g) else h
 unfolding _else_
@@ -24,7 +28,7 @@ else-assoc none g h = refl
 else-assoc (some x) g h = refl
 
 -- the first thing that speaks against a request and an assignment, and before it what speaks against their files
-abbrev pub refusing : List ℕ → List ℕ → Option Answer
+abbrev refusing : List ℕ → List ℕ → Option Answer
 refusing req asg = requestFault req else assignmentFault (request req) asg else clashFault (request req) (assignment (request req) asg)
 
 abbrev pub unread : List ℕ → List ℕ → Option Answer
@@ -40,7 +44,7 @@ module _ (req asg p m : List ℕ) (x : Refusal) (g : LoadsBoth req asg p m x) wh
   pub unread-is : (a : Answer) → x ≡ Told a → unread req asg ≡ some a
   unread-is a h = sym (g .fault) ∙ ap found h
 
-  pub refusing-unread : (a : Answer) → x ≡ Told a → refusing req asg ≡ some a
+  refusing-unread : (a : Answer) → x ≡ Told a → refusing req asg ≡ some a
   unfolding _else_
   refusing-unread a h = else-assoc (requestFault req) (assignmentFault Q asg) (clashFault Q assigned) ∙ rw (unread-is a h) refl
 
@@ -55,15 +59,12 @@ module _ (req asg p m : List ℕ) (x : Refusal) (g : LoadsBoth req asg p m x) wh
     pub slotted-here : Slotted p m
     slotted-here = g .slotted (ap found n)
 
-    pub usable-here : Usable p
-    usable-here = slotted-here .plan
-
     pub booked-here : Booked Q assigned p m
     booked-here = g .booked (ap found n)
 
     -- y is the first clash
     module _ (y : Refusal) (is : FirstIs p m y) where
-      pub refusing-is : refusing req asg ≡ found y
+      refusing-is : refusing req asg ≡ found y
       unfolding _else_
       refusing-is = else-assoc (requestFault req) (assignmentFault Q asg) (clashFault Q assigned) ∙ rw read-well (sym (is Q assigned booked-here))
 

@@ -8,7 +8,6 @@ use model::REQUEST_FILE;
 use model::TABLE_FILE;
 use plan::PLAN_SIZE;
 use plan_refusal::Refusal;
-use slot_search::Allotted;
 
 // Reads a request.
 pub fn read_request(request: &[u8]) -> Answer
@@ -30,24 +29,7 @@ pub fn allocate(request: &[u8], budget: u32, assignment: &mut [u8]) -> Answer
     if let Refusal::Told(answer) = refusal {
         return answer;
     }
-    let needed = slot_allot::assignment_size(&plan);
-    if assignment.len() < needed {
-        return Answer::Short {
-            bytes: needed as u32,
-        };
-    }
-    let mut masks = [0u32; CIRCUITS_MOST];
-    match slot_allot::search_slots(&plan, budget, &mut masks) {
-        Allotted::Done(visits) => {
-            let bytes = slot_writer::write_assignment(&plan, &masks, assignment);
-            Answer::Allocated {
-                visits,
-                bytes: bytes as u32,
-            }
-        }
-        Allotted::Full(visits) => Answer::NoRoom { visits },
-        Allotted::Unfinished => Answer::Unfinished { visits: budget },
-    }
+    call_allot::allot(&plan, budget, assignment)
 }
 
 // Checks an assignment of a request.
@@ -74,20 +56,7 @@ pub fn make_tables(request: &[u8], assignment: &[u8], table: &mut [u8]) -> Answe
     if let Refusal::Told(answer) = refusal {
         return answer;
     }
-    let clash = clash_first::first_clash(&plan, &masks);
-    if let Refusal::Told(answer) = clash {
-        return answer;
-    }
-    let needed = line_maker::table_size(&plan, &masks);
-    if table.len() < needed {
-        return Answer::Short {
-            bytes: needed as u32,
-        };
-    }
-    let bytes = line_maker::write_table(&plan, &masks, table);
-    Answer::Made {
-        bytes: bytes as u32,
-    }
+    call_make::make(&plan, &masks, table)
 }
 
 // Checks a table against the request and the assignment that it is for.

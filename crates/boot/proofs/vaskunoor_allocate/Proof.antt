@@ -5,7 +5,7 @@ use Rattle.boot.proofs.vaskunoor_allocate.Statement.{statement}
 use Rattle.boot.proofs.vaskunoor_allocate.Tie as tie
 use Rattle.boot.proofs.vaskunoor_allocate.Reads as reads
 use Rattle.boot.proofs.vaskunoor_allocate.Lts as lts
-use Rattle.boot.proofs.tell.Reads as tell-reads
+use Rattle.call_tell.proofs.tell.Reads as tell-reads
 use Rattle.vaskunoor.proofs.allocate.Reads as allocate-reads
 
 returns : tie.Need-returns

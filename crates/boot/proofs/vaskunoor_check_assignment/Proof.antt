@@ -5,7 +5,7 @@ use Rattle.boot.proofs.vaskunoor_check_assignment.Statement.{statement}
 use Rattle.boot.proofs.vaskunoor_check_assignment.Tie as tie
 use Rattle.boot.proofs.vaskunoor_check_assignment.Reads as reads
 use Rattle.boot.proofs.vaskunoor_check_assignment.Lts as lts
-use Rattle.boot.proofs.tell.Reads as tell-reads
+use Rattle.call_tell.proofs.tell.Reads as tell-reads
 use Rattle.vaskunoor.proofs.check_assignment.Reads as check-assignment-reads
 
 returns : tie.Need-returns

@@ -5,7 +5,7 @@ use Rattle.boot.proofs.vaskunoor_check_tables.Statement.{statement}
 use Rattle.boot.proofs.vaskunoor_check_tables.Tie as tie
 use Rattle.boot.proofs.vaskunoor_check_tables.Reads as reads
 use Rattle.boot.proofs.vaskunoor_check_tables.Lts as lts
-use Rattle.boot.proofs.tell.Reads as tell-reads
+use Rattle.call_tell.proofs.tell.Reads as tell-reads
 use Rattle.vaskunoor.proofs.check_tables.Reads as check-tables-reads
 
 returns : tie.Need-returns

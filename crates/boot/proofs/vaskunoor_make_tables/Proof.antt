@@ -5,7 +5,7 @@ use Rattle.boot.proofs.vaskunoor_make_tables.Statement.{statement}
 use Rattle.boot.proofs.vaskunoor_make_tables.Tie as tie
 use Rattle.boot.proofs.vaskunoor_make_tables.Reads as reads
 use Rattle.boot.proofs.vaskunoor_make_tables.Lts as lts
-use Rattle.boot.proofs.tell.Reads as tell-reads
+use Rattle.call_tell.proofs.tell.Reads as tell-reads
 use Rattle.vaskunoor.proofs.make_tables.Reads as make-tables-reads
 
 returns : tie.Need-returns

@@ -5,7 +5,7 @@ use Rattle.boot.proofs.vaskunoor_read.Statement.{statement}
 use Rattle.boot.proofs.vaskunoor_read.Tie as tie
 use Rattle.boot.proofs.vaskunoor_read.Reads as reads
 use Rattle.boot.proofs.vaskunoor_read.Lts as lts
-use Rattle.boot.proofs.tell.Reads as tell-reads
+use Rattle.call_tell.proofs.tell.Reads as tell-reads
 use Rattle.vaskunoor.proofs.read_request.Reads as read-request-reads
 
 returns : tie.Need-returns

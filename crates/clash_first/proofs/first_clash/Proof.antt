@@ -1,7 +1,6 @@
 -- `clash_first::first_clash` meets its contract. The loops' invariants: nothing is found yet, and what was passed is clear. Assumes nothing.
 use Prim.Native.Nat.{_-_, _<_}
-use mathlib.Core.Path.{_≡_, refl, sym, _∙_}
-use borrow.Author.Tests.{not-true}
+use mathlib.Core.Path.{_≡_, refl}
 use Rattle.model.specs.Sizes.{resourcesMost}
 use Rattle.plan.specs.Plan.{bookingIn}
 use Rattle.plan_refusal.specs.declared.Refusal.the-variants.{Nothing}
@@ -63,7 +62,7 @@ loop-less : tie.Need-loop-less Inv-loop3 μ-loop3 Inv-loop2 μ-loop2 Inv-loop μ
 loop-less c = omega arith
 
 loop-again : tie.Need-loop-again Inv-loop3 μ-loop3 Inv-loop2 μ-loop2 Inv-loop μ-loop Inv-found μ-found
-loop-again c = let plan = c .before .before .before .before .before .before .before .before .before .before .before .pre .plan in (c .before .before .before .before .loop .inv .0, omega arith, higher-more (c .before .before .before .before .loop .inv .2) (plan-skip _ _ _ _ (plan .fit _ (omega arith)) (plan .fit _ (omega arith)) (sym (c .before .clashes-by-sets .ensures) ∙ not-true _ (c .if1 .taken))))
+loop-again c = let plan = c .before .before .before .before .before .before .before .before .before .before .before .pre .plan in (c .before .before .before .before .loop .inv .0, omega arith, higher-more (c .before .before .before .before .loop .inv .2) (plan-skip _ _ _ _ (plan .fit _ (omega arith)) (plan .fit _ (omega arith)) (c .before .clashes-by-sets .ensures) (c .if1 .taken)))
 
 slots-of-requires : tie.Need-slots-of-requires Inv-loop3 μ-loop3 Inv-loop2 μ-loop2 Inv-loop μ-loop Inv-found μ-found
 slots-of-requires c κs = let plan = c .before .before .before .before .before .before .before .before .before .before .before .pre .plan in (plan .fit _ (omega arith), plan .fit _ (omega arith))
@@ -96,7 +95,7 @@ loop3-less : tie.Need-loop3-less Inv-loop3 μ-loop3 Inv-loop2 μ-loop2 Inv-loop 
 loop3-less c = omega arith
 
 loop3-again : tie.Need-loop3-again Inv-loop3 μ-loop3 Inv-loop2 μ-loop2 Inv-loop μ-loop Inv-found μ-found
-loop3-again c = (c .before .before .before .loop3 .inv .0, whats-more (c .before .before .before .loop3 .inv .1) (sym (c .before .both-hold .ensures) ∙ c .if2 .left))
+loop3-again c = (c .before .before .before .loop3 .inv .0, whats-more (c .before .before .before .loop3 .inv .1) (c .before .both-hold .ensures) (c .if2 .left))
 
 add-t : tie.Need-add-t Inv-loop3 μ-loop3 Inv-loop2 μ-loop2 Inv-loop μ-loop Inv-found μ-found
 add-t c = omega arith

@@ -33,16 +33,16 @@ is-fine-requires : tie.Need-is-fine-requires
 is-fine-requires c κs = search needs
 
 returns-2 : tie.Need-returns-2
-returns-2 c = search head-fault
+returns-2 c = head-fault _ _ _ (c .before .before .before .before .before .before .before .before .before .before .before .pre .0) _ _ _ (c .before .before .before .before .before .before .before .if1 .left) _ _ _ _ (c .before .before .before .word .ensures) (c .before .before .before .before .demand-of .ensures) (c .before .before .offsets-head .ensures) (c .before .is-fine .ensures) (c .if2 .taken)
 
 first-bad-offset-requires : tie.Need-first-bad-offset-requires
 first-bad-offset-requires c κs = search needs
 
 returns-3 : tie.Need-returns-3
-returns-3 c = search offset-fault
+returns-3 c = offset-fault _ _ _ (c .before .before .before .before .before .before .before .before .before .before .before .before .before .pre .0) _ _ _ (c .before .before .before .before .before .before .before .before .before .if1 .left) _ _ _ _ (c .before .before .before .before .before .word .ensures) (c .before .before .before .before .before .before .demand-of .ensures) (c .before .before .before .before .offsets-head .ensures) (c .before .before .before .is-fine .ensures) (c .before .before .if2 .left) _ _ (c .before .before .before .before .before .before .before .cycle-of .ensures) (c .before .first-bad-offset .ensures) (c .if3 .taken)
 
 returns-4 : tie.Need-returns-4
-returns-4 c = search offsets-fine
+returns-4 c = offsets-fine _ _ _ (c .before .before .before .before .before .before .before .before .before .before .before .before .before .pre .0) _ _ _ (c .before .before .before .before .before .before .before .before .before .if1 .left) _ _ _ _ (c .before .before .before .before .before .word .ensures) (c .before .before .before .before .before .before .demand-of .ensures) (c .before .before .before .before .offsets-head .ensures) (c .before .before .before .is-fine .ensures) (c .before .before .if2 .left) _ _ (c .before .before .before .before .before .before .before .cycle-of .ensures) (c .before .first-bad-offset .ensures) (c .if3 .left)
 
 pub verdict-spec : {M : Type 1} → statement M
 verdict-spec =

@@ -62,7 +62,7 @@ line-numbers-requires : tie.Need-line-numbers-requires
 line-numbers-requires c κs = search needs
 
 returns-4 : tie.Need-returns-4
-returns-4 c = search line-rest
+returns-4 c = line-rest _ _ _ _ (c .before .before .before .before .before .before .before .before .before .before .if1 .left) _ (c .before .before .before .before .before .before .before .before .before .word .ensures) (c .before .before .before .before .before .before .before .before .if2 .left) (c .before .before .before .before .before .before .before .if3 .left) _ _ _ _ _ _ _ (c .before .before .before .before .before .before .byte .ensures) (c .before .before .before .before .before .byte2 .ensures) (c .before .before .before .before .byte3 .ensures) (c .before .before .before .byte4 .ensures) (c .before .before .word2 .ensures) (c .before .word3 .ensures) (c .line-numbers .ensures)
 
 pub verdict-spec : {M : Type 1} → statement M
 verdict-spec =

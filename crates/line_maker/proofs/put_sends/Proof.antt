@@ -3,8 +3,9 @@ use Prim.Native.Nat.{_-_, _≤_}
 use Rattle.plan.specs.Plan.{sendCount}
 use Rattle.file_writer.proofs.Lists.{leftOf}
 use Rattle.file_writer.proofs.Rest.{Rest, rest-start, part-room, part-more, part-end}
-use Rattle.line_maker.specs.Files.{sendBytes, offsetBytes}
-use Rattle.line_maker.proofs.Sizes.{send-length}
+use Rattle.line_record.specs.Record.{sendBytes}
+use Rattle.line_record.proofs.Record.{send-length}
+use Rattle.line_maker.specs.Files.{offsetBytes}
 use native.Mathlib.Omega.{arith}
 use Rattle.line_maker.proofs.put_sends.Statement.{statement}
 use Rattle.line_maker.proofs.put_sends.Tie as tie

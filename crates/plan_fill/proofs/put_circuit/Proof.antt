@@ -1,21 +1,17 @@
 -- `plan_fill::put_circuit` meets its contract. The loop's invariant: the hops before j are put into their places. Assumes nothing.
-use Prim.Native.Nat.{ℕ, _-_, _≤_, _<_}
-use mathlib.Core.Path.{_≡_, refl, sym}
-use mathlib.Core.List.{List}
-use lib.ListN.{length}
-use Rattle.model.specs.Sizes.{wordEnd, hopsMost, circuitsMost}
-use Rattle.model.specs.Network.{circuitOf, inport, after}
+use Prim.Native.Nat.{_-_}
+use mathlib.Core.Path.{refl, sym}
+use Rattle.model.specs.Network.{inport}
 use Rattle.model.specs.Reading.{request}
 use Rattle.model.proofs.Sound.{after-first}
 use Rattle.file_parts.proofs.Parts.{link-here}
-use Rattle.plan.specs.Plan.{planSize}
-use Rattle.plan_fill.proofs.Loading.{Writing, writing-none, writing-more, late-next, inp-next, writing-all}
+use Rattle.plan_fill.proofs.Loading.{Going, going-next, writing-none, writing-all}
 use native.Mathlib.Omega.{arith}
 use Rattle.plan_fill.proofs.put_circuit.Statement.{statement}
 use Rattle.plan_fill.proofs.put_circuit.Tie as tie
 
 abbrev Inv-loop : tie.InvT-loop
-Inv-loop req c a p₀ hops cycle demand first owner inp₀ late₀ j₀ p inp late j = (j ≤ hops) × (hops ≤ hopsMost) × (c < circuitsMost) × (length p ≡ planSize) × (inp < wordEnd) × (inp ≡ inport (circuitOf (request req) c) j) × (late ≤ j) × (late ≡ after (request req .network) (circuitOf (request req) c) j) × ((old : List ℕ) → Writing (request req) c 0 old p₀ → Writing (request req) c j old p)
+Inv-loop req c a p₀ hops cycle demand first owner inp₀ late₀ j₀ p inp late j = Going (request req) c hops p₀ p inp late j
 
 abbrev μ-loop : tie.MeasureT-loop
 μ-loop req c a p₀ hops cycle demand first owner inp₀ late₀ j₀ p inp late j = hops - j
@@ -76,7 +72,7 @@ loop-less : tie.Need-loop-less Inv-loop μ-loop
 loop-less c = omega arith
 
 loop-again : tie.Need-loop-again Inv-loop μ-loop
-loop-again c = let hi = c .before .before .before .before .before .before .before .before .before .hop-of2 .ensures in let fr = c .before .before .before .before .before .before .before .before .from-router2 .ensures in let inv = c .before .before .before .before .before .before .before .before .before .before .before .loop .inv in let a = c .before .before .before .before .before .before .put-use2 .ensures in let b = c .before .before .put-send .ensures in let few = c .before .before .before .before .before .before .before .before .before .before .before .before .before .before .before .before .before .before .before .before .before .before .before .before .hops-of .ensures in (omega arith, omega arith, omega arith, omega (arith, a .long, b .long), omega arith, inp-next (omega arith) (omega arith) hi fr (inv .5) (inv .7) a b, omega arith, late-next (omega arith) (omega arith) hi fr (inv .5) (inv .7) a b, λ old w. writing-more (omega arith) (omega arith) hi fr (inv .5) (inv .7) a b old (inv .8 old w))
+loop-again c = going-next (c .before .before .before .before .before .before .before .before .before .before .before .before .before .before .before .before .before .before .before .before .before .before .before .before .hops-of .ensures) (c .before .before .before .before .before .before .before .before .before .before .before .loop .inv) (c .before .before .before .before .before .before .before .before .before .before .loop-test .taken) (c .before .before .before .before .before .before .before .before .before .hop-of2 .ensures) (c .before .before .before .before .before .before .before .before .from-router2 .ensures) (c .before .before .before .before .before .before .put-use2 .ensures) (c .before .before .put-send .ensures)
 
 same-length : tie.Need-same-length Inv-loop μ-loop
 same-length c = omega arith

@@ -35,13 +35,13 @@ same-length-2 : tie.Need-same-length-2
 same-length-2 c = search needs
 
 returns-2 : tie.Need-returns-2
-returns-2 c = search assignment-refused
+returns-2 c = assignment-refused _ _ _ (c .before .before .before .before .before .before .before .before .before .before .before .before .«open» .ensures) (c .before .before .before .before .before .before .before .before .damaged .result) (c .before .before .before .before .before .before .before .before .damaged .ensures) _ (c .before .before .before .before .before .before .before .is-nothing .ensures) (c .before .before .before .before .before .before .if1 .left) _ _ (c .before .before .before .before .read .ensures) (c .before .before .damaged2 .result) (c .before .before .damaged2 .ensures) _ (c .before .is-nothing2 .ensures) _ (c .if2 .taken)
 
 slice-aggregate-fill : tie.Need-slice-aggregate-fill
 slice-aggregate-fill c = search needs
 
 fill-requires : tie.Need-fill-requires
-fill-requires c κs = (search risings-here, search needs)
+fill-requires c κs = (risings-here _ _ _ (c .before .before .before .before .before .before .before .before .before .before .before .before .before .before .«open» .ensures) (c .before .before .before .before .before .before .before .before .before .before .damaged .result) (c .before .before .before .before .before .before .before .before .before .before .damaged .ensures) _ (c .before .before .before .before .before .before .before .before .before .is-nothing .ensures) (c .before .before .before .before .before .before .before .before .if1 .left) _ _ (c .before .before .before .before .before .before .read .ensures) (c .before .before .before .before .damaged2 .result) (c .before .before .before .before .damaged2 .ensures) _ (c .before .before .before .is-nothing2 .ensures) (c .before .before .if2 .left), search needs)
 
 same-length-3 : tie.Need-same-length-3
 same-length-3 c = search needs
@@ -50,7 +50,7 @@ same-length-4 : tie.Need-same-length-4
 same-length-4 c = search needs
 
 returns-3 : tie.Need-returns-3
-returns-3 c = search both-loaded
+returns-3 c = both-loaded _ _ _ (c .before .before .before .before .before .before .before .before .before .before .before .before .before .before .before .before .before .«open» .ensures) (c .before .before .before .before .before .before .before .before .before .before .before .before .before .damaged .result) (c .before .before .before .before .before .before .before .before .before .before .before .before .before .damaged .ensures) _ (c .before .before .before .before .before .before .before .before .before .before .before .before .is-nothing .ensures) (c .before .before .before .before .before .before .before .before .before .before .before .if1 .left) _ _ (c .before .before .before .before .before .before .before .before .before .read .ensures) (c .before .before .before .before .before .before .before .damaged2 .result) (c .before .before .before .before .before .before .before .damaged2 .ensures) _ (c .before .before .before .before .before .before .is-nothing2 .ensures) (c .before .before .before .before .before .if2 .left) _ (c .before .before .fill .ensures)
 
 pub load-both-spec : {M : Type 1} → statement M
 load-both-spec =

@@ -1,5 +1,5 @@
 -- `slot_allot::search_slots` meets its contract. Assumes nothing.
-use Rattle.slot_search.proofs.Bridge.{bridge}
+use Rattle.slot_allot.proofs.Bridge.{bridge}
 use borrow.Author.Needs.{needs}
 use Rattle.slot_allot.proofs.search_slots.Statement.{statement}
 use Rattle.slot_allot.proofs.search_slots.Tie as tie

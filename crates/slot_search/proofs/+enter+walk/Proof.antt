@@ -4,7 +4,7 @@ use mathlib.Core.Path.{sym, _∙_}
 use mathlib.Core.Logic.{⊎-elim}
 use mathlib.Core.List.{map}
 use native.Mathlib.Omega.{arith}
-use native.Mathlib.Nat.{zero-lt-suc, lt-of-lt-of-le}
+use native.Mathlib.Nat.{zero-lt-suc}
 use Prim.Native.Nat.{ℕ, _+_, _-_, _*_, _<_}
 use lib.ListN.{take, length-set}
 use lib.Count.{ones, ones-le}
@@ -18,20 +18,22 @@ use Rattle.plan.specs.Plan.{circuitsIn, cycleIn, demandIn, InBounds}
 use Rattle.plan.proofs.circuits.Reads as circuits-reads
 use Rattle.plan.proofs.cycle.Reads as cycle-reads
 use Rattle.plan.proofs.demand.Reads as demand-reads
-use Rattle.slot_search.specs.Code.{SkippedTo}
+use Rattle.slot_cells.proofs.blocked.Reads as blocked-reads
+use Rattle.slot_cells.proofs.next_cell.Reads as next-cell-reads
+use Rattle.slot_cells.specs.Cells.{SkippedTo}
 use Rattle.slot_search.proofs.WalkLaws.{circuit-end, circuit-enter}
 use Rattle.slot_search.proofs.EndsLaws.{ends-same, ends-found}
-use Rattle.slot_search.proofs.CellLaws.{earlier-length, ready-as, cell-falls, next-le}
+use Rattle.slot_search.proofs.CellLaws.{earlier-length, ready-as}
+use Rattle.slot_search.proofs.NumberLaws.{cycle-small, demand-small, cell-small, small-fits, sum-fits, sum-cell-fits, next-fits, place-fits, next-circuit-fits}
+use Rattle.slot_search.proofs.NumberLaws.{some-left, next-le, cells-fall, cell-falls, circuit-falls, before-end, at-end, must-take, may-skip, more-wanted}
 use Rattle.slot_search.proofs.LoopLaws.{Turn, Nothing, word, above, turn-start, turn-again, turn-on, still-wanted, tried, not-free, nothing-long}
-use Rattle.slot_search.proofs.LoopLaws.{out-found, out-over, out-spent, out-short, out-shut, out-broke, out-end}
+use Rattle.slot_search.proofs.LoopLaws.{out-answered, out-spent, out-short, out-shut, out-broke, out-end}
 use Rattle.slot_search.proofs.enter.Reads as enter
 use Rattle.slot_search.proofs.enter.Kinds as enter-kinds
 use Rattle.slot_search.proofs.+enter+walk.Lts-enter as enter-lts
 use Rattle.slot_search.proofs.walk.Reads as walk
 use Rattle.slot_search.proofs.walk.Kinds as walk-kinds
 use Rattle.slot_search.proofs.+enter+walk.Lts-walk as walk-lts
-use Rattle.slot_search.proofs.blocked.Reads as blocked-reads
-use Rattle.slot_search.proofs.next_cell.Reads as next-cell-reads
 use Rattle.slot_search.proofs.+enter+walk.{statement}
 use Rattle.slot_search.proofs.+enter+walk.Tie.{close}
 
@@ -125,10 +127,16 @@ module _ (t : ℕ) where
 
   -- it is inside the cycle, and then an offset is wanted
   inside : (c : AtCell) → let x = c .before .before .before .before .before .before .before .before .args in c .before .before .next-cell .result < cycleIn (x .p .now) (x .at .circuit)
-  inside c = let w = passed (c .before) .within in omega (arith, c .if2 .left)
+  inside c = before-end (c .before .before .before .before .before .before .cycle .ensures) (c .before .before .next-cell .ensures .within) (c .if2 .left)
 
   wanted : (c : AtCell) → let x = c .before .before .before .before .before .before .before .before .args in ones (x .at .mask) < demandIn (x .p .now) (x .at .circuit)
-  wanted c = omega (arith, still-wanted (c .before .before .next-cell .ensures) (c .if2 .left))
+  wanted c = more-wanted (c .before .before .before .before .before .demand .ensures) (still-wanted (c .before .before .next-cell .ensures) (c .if2 .left))
+
+  fit-at : (c : AtCell) → let x = c .before .before .before .before .before .before .before .before .args in InBounds (x .p .now) (x .at .circuit)
+  fit-at c = c .before .before .before .before .loop .inv .fit
+
+  small : (c : AtCell) → c .before .before .next-cell .result < cycleMost
+  small c = cell-small (fit-at c) (inside c)
 
   -- where the ways through a cell meet, taking it came to nothing: it was tried, or was not free
   nothing : (c : walk-lts.Joined3 (walk-calls t) (walk-at t) walk.Post walk-Inv-loop walk-μ-loop)
@@ -146,13 +154,13 @@ module _ (t : ℕ) where
   walk-cycle-requires c κs = omega arith
 
   walk-cast-cycle : walk-lts.Need-cast-cycle (walk-calls t) (walk-at t) walk.Post walk-Inv-loop walk-μ-loop
-  walk-cast-cycle c = omega (arith, fit-here (c .before .before) .cycle .high)
+  walk-cast-cycle c = small-fits (cycle-small (fit-here (c .before .before)) (c .cycle .ensures))
 
   walk-demand-requires : walk-lts.Need-demand-requires (walk-calls t) (walk-at t) walk.Post walk-Inv-loop walk-μ-loop
   walk-demand-requires c κs = omega arith
 
   walk-cast-demand : walk-lts.Need-cast-demand (walk-calls t) (walk-at t) walk.Post walk-Inv-loop walk-μ-loop
-  walk-cast-demand c = let f = fit-here (c .before .before .before) in omega arith
+  walk-cast-demand c = small-fits (demand-small (fit-here (c .before .before .before)) (c .demand .ensures))
 
   walk-loop-holds : walk-lts.Need-loop-holds (walk-calls t) (walk-at t) walk.Post walk-Inv-loop walk-μ-loop
   walk-loop-holds c =
@@ -163,8 +171,7 @@ module _ (t : ℕ) where
   walk-next-cell-requires : walk-lts.Need-next-cell-requires (walk-calls t) (walk-at t) walk.Post walk-Inv-loop walk-μ-loop
   walk-next-cell-requires c κs =
       let i = c .before .loop .inv in
-      let f = i .fit in
-      (omega arith, (omega arith, omega arith, ones-le cycleMost _ (word i)))
+      (c .loop-test .taken, (cycle-small (i .fit) (c .before .before .before .cycle .ensures), demand-small (i .fit) (c .before .before .demand .ensures), ones-le cycleMost _ (word i)))
 
   walk-sub-if1 : walk-lts.Need-sub-if1 (walk-calls t) (walk-at t) walk.Post walk-Inv-loop walk-μ-loop
   walk-sub-if1 c = c .next-cell .ensures .started
@@ -188,7 +195,7 @@ module _ (t : ℕ) where
   walk-loop-again c = passed (c .before)
 
   walk-shr-if3 : walk-lts.Need-shr-if3 (walk-calls t) (walk-at t) walk.Post walk-Inv-loop walk-μ-loop
-  walk-shr-if3 c = let p = passed (c .before) .fit in omega (arith, inside c)
+  walk-shr-if3 c = small c
 
   walk-same-length-2 : walk-lts.Need-same-length-2 (walk-calls t) (walk-at t) walk.Post walk-Inv-loop walk-μ-loop
   walk-same-length-2 c = passed (c .before .before .before) .sized
@@ -199,13 +206,13 @@ module _ (t : ℕ) where
       out-spent (passed (at .before)) (inside at) (wanted at) (c .before .if3 .taken) (c .if4 .taken)
 
   walk-shl-got : walk-lts.Need-shl-got (walk-calls t) (walk-at t) walk.Post walk-Inv-loop walk-μ-loop
-  walk-shl-got c = let p = passed (c .before .before .before) .fit in omega (arith, inside (c .before .before))
+  walk-shl-got c = small (c .before .before)
 
   walk-add-walk : walk-lts.Need-add-walk (walk-calls t) (walk-at t) walk.Post walk-Inv-loop walk-μ-loop
-  walk-add-walk c = let p = passed (c .before .before .before) .fit in omega (arith, inside (c .before .before))
+  walk-add-walk c = next-fits (small (c .before .before))
 
   walk-sub-walk : walk-lts.Need-sub-walk (walk-calls t) (walk-at t) walk.Post walk-Inv-loop walk-μ-loop
-  walk-sub-walk c = omega arith
+  walk-sub-walk c = some-left (c .before .if4 .left)
 
   walk-walk-requires : walk-lts.Need-walk-requires (walk-calls t) (walk-at t) walk.Post walk-Inv-loop walk-μ-loop
   walk-walk-requires c κs =
@@ -213,107 +220,98 @@ module _ (t : ℕ) where
       let s = at .before .before .before .before .before .before .before .before in
       let i = passed (at .before) in
       let more = offsets-more (above i (inside at)) in (
-        cell-falls (circuitsIn (s .args .p .now) - s .args .at .circuit) (s .pre .0) (i .started) (lt-of-lt-of-le (inside at) (i .fit .cycle .high)),
+        cell-falls (circuitsIn (s .args .p .now) - s .args .at .circuit) (s .pre .0) (i .started) (small at),
         (ready-as (i .sized) (s .pre .1 .0), record { circuit = s .pre .1 .1 .circuit; within = next-le (inside at); low = more .low }),
       )
 
-  walk-enum-known-rest : walk-lts.Need-enum-known-rest (walk-calls t) (walk-at t) walk.Post walk-Inv-loop walk-μ-loop
-  walk-enum-known-rest c = search needs
+  walk-enum-known-tried : walk-lts.Need-enum-known-tried (walk-calls t) (walk-at t) walk.Post walk-Inv-loop walk-μ-loop
+  walk-enum-known-tried c = search needs
 
   walk-same-length-3 : walk-lts.Need-same-length-3 (walk-calls t) (walk-at t) walk.Post walk-Inv-loop walk-μ-loop
   walk-same-length-3 c =
-      let called = c .before .before .before .before .before in
+      let called = c .before .before .before in
       called .walk .kept .1 .1 .0 ∙ passed (called .before .before .before .before .before) .sized
 
   walk-returns-3 : walk-lts.Need-returns-3 (walk-calls t) (walk-at t) walk.Post walk-Inv-loop walk-μ-loop
   walk-returns-3 c =
-      let called = c .before .before .before .before .before in
+      let called = c .before .before .before in
       let at = called .before .before .before .before in
-      out-found (passed (at .before)) (inside at) (wanted at) (called .before .before .before .if3 .taken) (called .before .before .if4 .left) (c .before .rest .given .1) (called .walk .ensures)
+      out-answered (passed (at .before)) (inside at) (wanted at) (called .before .before .before .if3 .taken) (called .before .before .if4 .left) (c .match .keys2) (called .walk .ensures)
 
-  walk-enum-told : walk-lts.Need-enum-told (walk-calls t) (walk-at t) walk.Post walk-Inv-loop walk-μ-loop
-  walk-enum-told c = search needs
+  walk-add-if5 : walk-lts.Need-add-if5 (walk-calls t) (walk-at t) walk.Post walk-Inv-loop walk-μ-loop
+  walk-add-if5 c =
+      let at = c .before in
+      sum-fits (cycle-small (fit-at at) (at .before .before .before .before .before .before .cycle .ensures)) (ones-le cycleMost _ (word (at .before .before .before .before .loop .inv)))
+
+  walk-add-if5-2 : walk-lts.Need-add-if5-2 (walk-calls t) (walk-at t) walk.Post walk-Inv-loop walk-μ-loop
+  walk-add-if5-2 c = let at = c .before in sum-cell-fits (demand-small (fit-at at) (at .before .before .before .before .before .demand .ensures)) (small at)
 
   walk-same-length-4 : walk-lts.Need-same-length-4 (walk-calls t) (walk-at t) walk.Post walk-Inv-loop walk-μ-loop
-  walk-same-length-4 c =
-      let called = c .before .before .before .before in
-      called .walk .kept .1 .1 .0 ∙ passed (called .before .before .before .before .before) .sized
+  walk-same-length-4 c = nothing-long (passed (c .before .before .before)) (nothing (c .before))
 
   walk-returns-4 : walk-lts.Need-returns-4 (walk-calls t) (walk-at t) walk.Post walk-Inv-loop walk-μ-loop
   walk-returns-4 c =
-      let called = c .before .before .before .before in
-      let at = called .before .before .before .before in
-      out-over (passed (at .before)) (inside at) (wanted at) (called .before .before .before .if3 .taken) (called .before .before .if4 .left) (c .enum-told .given .1) (called .walk .ensures)
-
-  walk-enum-known-rest-2 : walk-lts.Need-enum-known-rest-2 (walk-calls t) (walk-at t) walk.Post walk-Inv-loop walk-μ-loop
-  walk-enum-known-rest-2 c = search needs
-
-  walk-add-if5 : walk-lts.Need-add-if5 (walk-calls t) (walk-at t) walk.Post walk-Inv-loop walk-μ-loop
-  walk-add-if5 c = let i = passed (c .before .before) in let f = i .fit in omega (arith, ones-le cycleMost _ (word i))
-
-  walk-add-if5-2 : walk-lts.Need-add-if5-2 (walk-calls t) (walk-at t) walk.Post walk-Inv-loop walk-μ-loop
-  walk-add-if5-2 c = let f = passed (c .before .before) .fit in omega (arith, inside (c .before))
+      let met = c .before in
+      let at = met .before in
+      let skip = must-take (at .before .before .before .before .before .before .cycle .ensures) (at .before .before .before .before .before .demand .ensures) (ones (at .before .before .before .before .before .before .before .before .args .at .mask)) (at .before .before .next-cell .result) (c .if5 .taken) in
+      out-shut (passed (at .before)) (inside at) (nothing met) skip
 
   walk-same-length-5 : walk-lts.Need-same-length-5 (walk-calls t) (walk-at t) walk.Post walk-Inv-loop walk-μ-loop
-  walk-same-length-5 c = nothing-long (passed (c .before .before .before)) (nothing (c .before))
+  walk-same-length-5 c = nothing-long (passed (c .before .before .before .before)) (nothing (c .before .before))
 
   walk-returns-5 : walk-lts.Need-returns-5 (walk-calls t) (walk-at t) walk.Post walk-Inv-loop walk-μ-loop
   walk-returns-5 c =
-      let met = c .before in
-      out-shut (passed (met .before .before)) (inside (met .before)) (nothing met) (omega arith)
-
-  walk-same-length-6 : walk-lts.Need-same-length-6 (walk-calls t) (walk-at t) walk.Post walk-Inv-loop walk-μ-loop
-  walk-same-length-6 c = nothing-long (passed (c .before .before .before .before)) (nothing (c .before .before))
-
-  walk-returns-6 : walk-lts.Need-returns-6 (walk-calls t) (walk-at t) walk.Post walk-Inv-loop walk-μ-loop
-  walk-returns-6 c =
       let met = c .before .before in
-      out-broke (passed (met .before .before)) (inside (met .before)) (nothing met) (omega arith) (c .if6 .taken)
+      let at = met .before in
+      let skip = may-skip (at .before .before .before .before .before .before .cycle .ensures) (at .before .before .before .before .before .demand .ensures) (ones (at .before .before .before .before .before .before .before .before .args .at .mask)) (at .before .before .next-cell .result) (c .before .if5 .left) in
+      out-broke (passed (at .before)) (inside at) (nothing met) skip (c .if6 .taken)
 
   walk-sub-left-3 : walk-lts.Need-sub-left-3 (walk-calls t) (walk-at t) walk.Post walk-Inv-loop walk-μ-loop
-  walk-sub-left-3 c = omega arith
+  walk-sub-left-3 c = some-left (c .before .if6 .left)
 
   walk-add-a : walk-lts.Need-add-a (walk-calls t) (walk-at t) walk.Post walk-Inv-loop walk-μ-loop
-  walk-add-a c = omega (arith, passed (c .before .before .before .before .before) .fit .cycle .high, inside (c .before .before .before .before))
+  walk-add-a c = next-fits (small (c .before .before .before .before))
 
   walk-loop-less-2 : walk-lts.Need-loop-less-2 (walk-calls t) (walk-at t) walk.Post walk-Inv-loop walk-μ-loop
   walk-loop-less-2 c =
-      let i = c .before .before .before .before .before .before .next-cell .ensures .started in
-      omega (arith, inside (c .before .before .before .before), i)
+      let at = c .before .before .before .before in
+      cells-fall (at .before .before .next-cell .ensures .started) (inside at)
 
   walk-loop-again-2 : walk-lts.Need-loop-again-2 (walk-calls t) (walk-at t) walk.Post walk-Inv-loop walk-μ-loop
   walk-loop-again-2 c =
       let met = c .before .before .before in
-      turn-again (passed (met .before .before)) (inside (met .before)) (nothing met) (omega arith) (c .before .if6 .left)
+      let at = met .before in
+      let skip = may-skip (at .before .before .before .before .before .before .cycle .ensures) (at .before .before .before .before .before .demand .ensures) (ones (at .before .before .before .before .before .before .before .before .args .at .mask)) (at .before .before .next-cell .result) (c .before .before .if5 .left) in
+      turn-again (passed (at .before)) (inside at) (nothing met) skip (c .before .if6 .left)
 
   walk-mul-taken : walk-lts.Need-mul-taken (walk-calls t) (walk-at t) walk.Post walk-Inv-loop walk-μ-loop
-  walk-mul-taken c = omega arith
+  walk-mul-taken c = place-fits (c .before .loop .inv .fit .listed)
 
   walk-slice-write-taken : walk-lts.Need-slice-write-taken (walk-calls t) (walk-at t) walk.Post walk-Inv-loop walk-μ-loop
   walk-slice-write-taken c = omega arith
 
   walk-add-enter : walk-lts.Need-add-enter (walk-calls t) (walk-at t) walk.Post walk-Inv-loop walk-μ-loop
-  walk-add-enter c = omega arith
+  walk-add-enter c = next-circuit-fits (c .before .before .loop .inv .fit .listed)
 
   walk-enter-requires : walk-lts.Need-enter-requires (walk-calls t) (walk-at t) walk.Post walk-Inv-loop walk-μ-loop
   walk-enter-requires c κs =
       let s = c .before .before .before .before .before .before in
-      let l = c .before .before .loop in
-      (omega arith, (ready-as (length-set (l .taken) (s .args .at .circuit) (s .args .at .mask) ∙ l .inv .sized) (s .pre .1 .0), omega arith))
+      let l = c .before .before .loop in (
+        circuit-falls (s .args .at .from) (s .pre .0) (s .pre .1 .1 .circuit),
+        (ready-as (length-set (l .taken) (s .args .at .circuit) (s .args .at .mask) ∙ l .inv .sized) (s .pre .1 .0), next-le (s .pre .1 .1 .circuit)),
+      )
 
-  walk-same-length-7 : walk-lts.Need-same-length-7 (walk-calls t) (walk-at t) walk.Post walk-Inv-loop walk-μ-loop
-  walk-same-length-7 c =
+  walk-same-length-6 : walk-lts.Need-same-length-6 (walk-calls t) (walk-at t) walk.Post walk-Inv-loop walk-μ-loop
+  walk-same-length-6 c =
       let x = c .before .before .before .before .before .before .before .before .before .args in
       let l = c .before .before .before .before .before .loop in
       c .before .before .enter .kept .1 .1 .0 ∙ length-set (l .taken) (x .at .circuit) (x .at .mask) ∙ l .inv .sized
 
-  walk-returns-7 : walk-lts.Need-returns-7 (walk-calls t) (walk-at t) walk.Post walk-Inv-loop walk-μ-loop
-  walk-returns-7 c =
+  walk-returns-6 : walk-lts.Need-returns-6 (walk-calls t) (walk-at t) walk.Post walk-Inv-loop walk-μ-loop
+  walk-returns-6 c =
       let s = c .before .before .before .before .before .before .before .before .before in
       let i = c .before .before .before .before .before .loop .inv in
-      let z = i .sized in
-      let m = s .pre .1 .0 .room in
-      out-end i (omega arith) (s .pre .1 .1 .circuit) (omega arith) (c .before .before .enter .ensures)
+      out-end i (at-end (c .before .before .before .before .before .before .before .cycle .ensures) (c .before .before .before .before .loop-test .left)) (s .pre .1 .1 .circuit) (ready-as {new = c .before .before .before .before .before .loop .taken} (i .sized) (s .pre .1 .0) .room) (c .before .before .enter .ensures)
 
 pub +enter+walk-spec : {M : Type 1} → statement M
 +enter+walk-spec =
@@ -346,19 +344,15 @@ pub +enter+walk-spec : {M : Type 1} → statement M
     (walk-add-walk t)
     (walk-sub-walk t)
     (walk-walk-requires t)
-    (walk-enum-known-rest t)
+    (walk-enum-known-tried t)
     (walk-same-length-3 t)
     (walk-returns-3 t)
-    (walk-enum-told t)
-    (walk-same-length-4 t)
-    (walk-returns-4 t)
-    (walk-enum-known-rest-2 t)
     (walk-add-if5 t)
     (walk-add-if5-2 t)
+    (walk-same-length-4 t)
+    (walk-returns-4 t)
     (walk-same-length-5 t)
     (walk-returns-5 t)
-    (walk-same-length-6 t)
-    (walk-returns-6 t)
     (walk-sub-left-3 t)
     (walk-add-a t)
     (walk-loop-less-2 t)
@@ -367,5 +361,5 @@ pub +enter+walk-spec : {M : Type 1} → statement M
     (walk-slice-write-taken t)
     (walk-add-enter t)
     (walk-enter-requires t)
-    (walk-same-length-7 t)
-    (walk-returns-7 t)
+    (walk-same-length-6 t)
+    (walk-returns-6 t)

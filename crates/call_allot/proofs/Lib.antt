@@ -1,0 +1,2 @@
+-- The laws behind allocation. Assumes nothing.
+pub mod Allotting

@@ -1,0 +1,2 @@
+-- What allocation comes to. Assumes nothing: these are definitions.
+pub mod Allot

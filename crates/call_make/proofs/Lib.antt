@@ -1,0 +1,2 @@
+-- The laws behind making a table. Assumes nothing.
+pub mod Making

@@ -1,0 +1,2 @@
+-- What making a table comes to. Assumes nothing: these are definitions.
+pub mod Make

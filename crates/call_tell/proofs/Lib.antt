@@ -1,0 +1,2 @@
+-- The laws behind the telling of an answer. Assumes nothing.
+pub mod Telling

@@ -1,0 +1,3 @@
+-- The laws behind what two circuits hold. Assumes nothing.
+pub mod Held
+pub mod Sets

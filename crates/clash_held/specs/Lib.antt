@@ -1,0 +1,2 @@
+-- What two circuits hold. Assumes nothing: these are definitions.
+pub mod Held

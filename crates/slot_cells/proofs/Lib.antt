@@ -1,0 +1,3 @@
+-- What the proofs of the functions use. Assumes nothing.
+mod WordLaws
+mod ShutLaws
