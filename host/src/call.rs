@@ -19,6 +19,18 @@ impl Job {
     pub fn name(self) -> &'static str {
         ["read", "allocate", "check_assignment", "make_tables", "check_tables"][self as usize]
     }
+
+    /// Whether some files lead to this number: 1 to 7 a request, 8 an assignment, 9 a table; then what the job itself tells. Where the
+    /// details area has not 16 bytes every job gives 17.
+    pub fn can_give(self, number: u32) -> bool {
+        match self {
+            Job::Read => matches!(number, 0..=7),
+            Job::Allocate => matches!(number, 0..=7 | 10 | 11 | 17),
+            Job::CheckAssignment => matches!(number, 0..=8 | 12),
+            Job::MakeTables => matches!(number, 0..=8 | 12 | 17),
+            Job::CheckTables => matches!(number, 0..=9 | 12..=16),
+        }
+    }
 }
 
 /// The bytes handed in; `output` and `details` are the areas as they are before the call.

@@ -1,6 +1,7 @@
 //! Damages the bytes of a file, with an eye to its records: heads, counts, spare bytes, limits. Assumes any file, damaged before or not.
 use crate::model::{put_record, CIRCUIT, CIRCUITS_MOST, HEAD_SIZE, LINE, LINES_MOST};
 use crate::random::Random;
+use crate::records::{records, set_word, word};
 use std::ops::Range;
 
 /// Damages that keep the length of the file.
@@ -21,21 +22,6 @@ pub fn damage(random: &mut Random, file: &mut Vec<u8>) {
     }
 }
 
-/// Where the records stand, as far as their lengths lead.
-fn records(file: &[u8]) -> Vec<Range<usize>> {
-    let mut records = Vec::new();
-    let mut start = 0;
-    while start + HEAD_SIZE <= file.len() {
-        let end = start + HEAD_SIZE + word(file, start) as usize;
-        if end > file.len() {
-            break;
-        }
-        records.push(start..end);
-        start = end;
-    }
-    records
-}
-
 fn pick_record(random: &mut Random, file: &[u8]) -> Option<Range<usize>> {
     let records = records(file);
     (!records.is_empty()).then(|| records[random.below(records.len())].clone())
@@ -45,14 +31,6 @@ fn pick_record(random: &mut Random, file: &[u8]) -> Option<Range<usize>> {
 fn pick_full_record(random: &mut Random, file: &[u8]) -> Option<Range<usize>> {
     let full: Vec<Range<usize>> = records(file).into_iter().filter(|record| record.len() > HEAD_SIZE).collect();
     (!full.is_empty()).then(|| full[random.below(full.len())].clone())
-}
-
-fn word(file: &[u8], at: usize) -> u16 {
-    u16::from_le_bytes([file[at], file[at + 1]])
-}
-
-fn set_word(file: &mut [u8], at: usize, word: u16) {
-    file[at..at + 2].copy_from_slice(&word.to_le_bytes());
 }
 
 fn change_byte(random: &mut Random, file: &mut [u8]) {

@@ -1,9 +1,13 @@
 //! Draws requests, assignments and tables of many shapes, and damages some of them. Assumes that what is drawn may be refused by any rule,
 //! and that it is damage alone that makes a file unreadable.
+pub mod calls;
+mod large;
+mod lines;
+
 use crate::damage::damage;
 use crate::model::*;
 use crate::named::{circuit, full_ring, net_p, net_q, network};
-use crate::plain::{needed_lines, search, Found};
+use crate::plain::{search, Found};
 use crate::random::Random;
 
 pub struct FileSet {
@@ -11,6 +15,8 @@ pub struct FileSet {
     pub assignment: Vec<u8>,
     pub table: Vec<u8>,
     pub damaged: bool,
+    /// The visits after which a search for its slots is not followed any further.
+    pub visits_most: u32,
 }
 
 /// From least to most, both included.
@@ -44,6 +50,7 @@ const LONG_CYCLES: Shape = Shape { routers: (2, 6), buffers: (1, 8), circuits: (
 const MIDDLE: Shape = Shape { routers: (3, 12), buffers: (4, 30), circuits: (2, 8), cycles: &[2, 3, 4, 6, 8, 9, 12], hops: (1, 8) };
 /// Common cycles short enough that the run is walked, however many circuits there are.
 const DOUBLING: Shape = Shape { routers: (4, 24), buffers: (8, 60), circuits: (3, 16), cycles: &[2, 4, 8, 16, 32], hops: (1, 12) };
+/// Any cycles, so that many circuits seldom have room.
 const LARGE: Shape = Shape {
     routers: (8, ROUTERS_MOST),
     buffers: (20, BUFFERS_MOST),
@@ -62,17 +69,24 @@ const FULL: Shape = Shape {
 /// The visits after which a search for the offsets to write down is given up.
 const VISITS_TO_FIND: u32 = 2000;
 
+/// One set in so many is a plan of full size that mostly has room.
+const LARGE_ONCE_IN: usize = 60;
+
 pub fn file_set(random: &mut Random) -> FileSet {
+    if random.once_in(LARGE_ONCE_IN) {
+        return large::file_set(random);
+    }
     let request = draw_request(random);
     let assignment = draw_assignment(random, &request);
-    let lines = draw_lines(random, &request, &assignment);
-    let files = [request_file(&request), assignment_file(&assignment), table_file(&lines)];
-    spoil(random, files)
+    let lines = lines::draw_lines(random, &request, &assignment);
+    let damaged = random.once_in(2);
+    let [request, assignment, table] = files(random, (&request, &assignment, &lines), damaged);
+    FileSet { request, assignment, table, damaged, visits_most: VISITS_TO_FIND }
 }
 
-/// Damages one file in half of the sets, and now and then in a second place.
-fn spoil(random: &mut Random, mut files: [Vec<u8>; 3]) -> FileSet {
-    let damaged = random.once_in(2);
+/// The bytes of the three; one of them damaged if so wished, and now and then in a second place.
+fn files(random: &mut Random, (request, assignment, lines): (&Request, &Assignment, &[Line]), damaged: bool) -> [Vec<u8>; 3] {
+    let mut files = [request_file(request), assignment_file(assignment), table_file(lines)];
     if damaged {
         let which = random.below(3);
         damage(random, &mut files[which]);
@@ -81,8 +95,7 @@ fn spoil(random: &mut Random, mut files: [Vec<u8>; 3]) -> FileSet {
             damage(random, &mut files[which]);
         }
     }
-    let [request, assignment, table] = files;
-    FileSet { request, assignment, table, damaged }
+    files
 }
 
 /// Half of the requests are thinned out until the search finds offsets, so that tables without a clash are common.
@@ -108,9 +121,9 @@ fn draw_circuits(random: &mut Random) -> Request {
         18..=39 => drawn_from(random, &TINY),
         40..=54 => drawn_from(random, &CROWDED),
         55..=69 => drawn_from(random, &LONG_CYCLES),
-        70..=81 => drawn_from(random, &MIDDLE),
-        82..=91 => drawn_from(random, &DOUBLING),
-        92..=98 => drawn_from(random, &LARGE),
+        70..=82 => drawn_from(random, &MIDDLE),
+        83..=94 => drawn_from(random, &DOUBLING),
+        95..=98 => drawn_from(random, &LARGE),
         _ => drawn_from(random, &FULL),
     }
 }
@@ -223,108 +236,4 @@ fn draw_offsets(random: &mut Random, circuit: &Circuit) -> Vec<usize> {
         left.remove(random.below(left.len()));
     }
     left
-}
-
-/// The maker's own lines, or what another tool might make of them, or lines with faults.
-fn draw_lines(random: &mut Random, request: &Request, assignment: &Assignment) -> Vec<Line> {
-    let mut lines = needed_lines(request, assignment);
-    let network = &request.network;
-    match random.below(8) {
-        0..=2 => {}
-        3..=4 => loosen(random, &mut lines),
-        5 => add_any_lines(random, &mut lines, network),
-        _ => {
-            for _ in 0..random.between((1, 3)) {
-                alter_line(random, &mut lines, network);
-            }
-        }
-    }
-    lines
-}
-
-/// Divides periods, so that one line may serve several series, and drops the lines that became equal.
-fn loosen(random: &mut Random, lines: &mut Vec<Line>) {
-    for line in lines.iter_mut() {
-        if random.once_in(2) {
-            let divisors: Vec<usize> = (1..=line.period).filter(|divisor| line.period.is_multiple_of(*divisor)).collect();
-            line.period = random.pick(&divisors);
-            line.slot %= line.period;
-        }
-    }
-    let mut kept: Vec<Line> = Vec::new();
-    for line in lines.iter() {
-        if !kept.contains(line) {
-            kept.push(*line);
-        }
-    }
-    *lines = kept;
-}
-
-/// Adds lines that may meet nothing.
-fn add_any_lines(random: &mut Random, lines: &mut Vec<Line>, network: &Network) {
-    for _ in 0..random.between((1, 4)) {
-        if let Some(line) = draw_line(random, network) {
-            lines.insert(random.below(lines.len() + 1), line);
-        }
-    }
-}
-
-/// Any line that reads; there is none without buffers.
-fn draw_line(random: &mut Random, network: &Network) -> Option<Line> {
-    if network.buffers.is_empty() {
-        return None;
-    }
-    let out = random.below(network.buffers.len());
-    let router = network.buffers[out].from;
-    let period = random.between((1, CYCLE_MOST));
-    let slot = random.below(period);
-    Some(Line { router, period, slot, inport: draw_inport(random, network, router), out })
-}
-
-fn draw_inport(random: &mut Random, network: &Network, router: usize) -> Inport {
-    let leads_here = |buffer: &usize| network.buffers[*buffer].to == router;
-    let mut inports: Vec<Inport> = (0..network.buffers.len()).filter(leads_here).map(Inport::Buffer).collect();
-    inports.push(Inport::Local);
-    random.pick(&inports)
-}
-
-/// Changes one line to another that reads, or drops, doubles, moves or splits one.
-fn alter_line(random: &mut Random, lines: &mut Vec<Line>, network: &Network) {
-    if lines.is_empty() {
-        return;
-    }
-    let (at, other) = (random.below(lines.len()), random.below(lines.len()));
-    let line = lines[at];
-    match random.below(10) {
-        0 => drop(lines.remove(at)),
-        1 => lines.insert(other, line),
-        2 => lines.swap(at, other),
-        3 => split(random, lines, at),
-        4 => lines[at].period = random.between((line.slot + 1, CYCLE_MOST)),
-        5 => lines[at].slot = random.below(line.period),
-        6 => lines[at].inport = draw_inport(random, network, line.router),
-        7 => lines[at] = draw_line(random, network).expect("a line has an out buffer"),
-        _ => lead_elsewhere(random, lines, network),
-    }
-}
-
-/// Leads one line to another buffer of its router, where some router has two.
-fn lead_elsewhere(random: &mut Random, lines: &mut [Line], network: &Network) {
-    let mut ways: Vec<(usize, usize)> = Vec::new();
-    for (at, line) in lines.iter().enumerate() {
-        let elsewhere = |out: &usize| network.buffers[*out].from == line.router && *out != line.out;
-        ways.extend((0..network.buffers.len()).filter(elsewhere).map(|out| (at, out)));
-    }
-    if !ways.is_empty() {
-        let (at, out) = random.pick(&ways);
-        lines[at].out = out;
-    }
-}
-
-/// Puts several lines of a multiple of the period in place of one: together they match in the same slots.
-fn split(random: &mut Random, lines: &mut Vec<Line>, at: usize) {
-    let line = lines[at];
-    let parts = random.between((1, CYCLE_MOST / line.period));
-    let part = |k: usize| Line { period: line.period * parts, slot: line.slot + k * line.period, ..line };
-    lines.splice(at..=at, (0..parts).map(part));
 }

@@ -11,9 +11,14 @@ mod long;
 pub mod model;
 mod named;
 pub mod number;
+mod pairs;
 pub mod plain;
 mod random;
+mod reach;
+mod records;
 mod shim;
+mod show;
+mod shrink;
 mod tally;
 #[cfg(test)]
 mod tried;

@@ -1,5 +1,5 @@
 //! `host compare [--seed N] [--files N] [--case K]`: compares the five jobs of the proved library with an independent program on random
-//! files. Assumes the library as library.rs does. The last line is 'N passed, M failed', and the exit status is 0 only where M is 0.
+//! files, after the pairs of pairs.rs. Assumes the library as library.rs does. The last line is 'N passed, M failed', and the exit status is 0 only where M is 0.
 use host::compare;
 use host::library::Library;
 use std::env;

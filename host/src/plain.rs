@@ -51,6 +51,11 @@ pub fn check_tables(request: &[u8], assignment: &[u8], table: &[u8]) -> Told {
     either(try_check_tables(request, assignment, table))
 }
 
+/// How many circuits a request has; 0 where it does not read.
+pub fn circuits(request: &[u8]) -> usize {
+    reading::request(request).map_or(0, |request| request.circuits.len())
+}
+
 /// How the run of demand 3 goes with this table; nothing where a file does not read or the run is too long to walk.
 pub fn judge_run(request: &[u8], assignment: &[u8], table: &[u8]) -> Option<Judgement> {
     let (request, assignment, lines) = read_all(request, assignment, table).ok()?;

@@ -1,22 +1,45 @@
-//! Counts what was compared and what disagreed, and says so. Assumes that a number passes only where it was met.
-use crate::call::{Call, Job, DETAILS_SIZE};
+//! Counts what was compared and what disagreed, and says so. Assumes that a number passes only where each job that can give it gave it.
+use crate::call::{Answer, Call, Job, DETAILS_SIZE};
+use crate::draw::calls::Asked;
 use crate::number;
 use crate::plain::Judgement;
+use crate::reach::{Reach, Seen};
+
+/// The row of the calls whose details area has another length: they are 17 too, and nothing is told of them.
+const OTHER_DETAILS: usize = number::HOW_MANY;
+const ROWS: usize = number::HOW_MANY + 1;
+
+type Counts = [[u64; ROWS]; Job::ALL.len()];
 
 #[derive(Default)]
 pub struct Tally {
     valid_sets: u64,
     damaged_sets: u64,
-    met: [[u64; number::HOW_MANY]; Job::ALL.len()],
-    disagreed: [[u64; number::HOW_MANY]; Job::ALL.len()],
+    met: Counts,
+    disagreed: Counts,
     areas_empty: u64,
     areas_short: u64,
     areas_exact: u64,
     areas_long: u64,
-    details_of_other_size: u64,
     runs_bad: u64,
     runs_good: u64,
     runs_good_in_part: u64,
+    reach: Reach,
+}
+
+fn row(call: &Call, number: u32) -> usize {
+    if call.details.len() == DETAILS_SIZE {
+        number as usize
+    } else {
+        OTHER_DETAILS
+    }
+}
+
+fn row_name(row: usize) -> String {
+    match row {
+        OTHER_DETAILS => "17 details".to_string(),
+        _ => row.to_string(),
+    }
 }
 
 impl Tally {
@@ -25,15 +48,21 @@ impl Tally {
         self.valid_sets += u64::from(!damaged);
     }
 
-    /// One compared call, with the number that the plain program gave.
-    pub fn count(&mut self, job: Job, number: u32, agreed: bool) {
-        self.met[job as usize][number as usize] += 1;
-        self.disagreed[job as usize][number as usize] += u64::from(!agreed);
+    /// One compared call, with the answer that the plain program gave.
+    pub fn count(&mut self, asked: &Asked, answer: &Answer, agreed: bool) {
+        let (call, row) = (&asked.call, row(&asked.call, answer.number));
+        self.met[call.job as usize][row] += 1;
+        self.disagreed[call.job as usize][row] += u64::from(!agreed);
+        self.count_output(call, asked.needed);
+        if row != OTHER_DETAILS {
+            let details = answer.detail_numbers();
+            let (circuit, slot) = (details[0], details[2]);
+            self.reach.count(&Seen { job: call.job, circuits: asked.circuits, number: answer.number, circuit, slot });
+        }
     }
 
-    /// The areas of one call; `needed` are the bytes that its output takes up.
-    pub fn count_areas(&mut self, call: &Call, needed: Option<usize>) {
-        self.details_of_other_size += u64::from(call.details.len() != DETAILS_SIZE);
+    /// The output area of one call; `needed` are the bytes that its output takes up.
+    fn count_output(&mut self, call: &Call, needed: Option<usize>) {
         let Some(needed) = needed else {
             return;
         };
@@ -56,45 +85,138 @@ impl Tally {
         *counter += 1;
     }
 
-    fn sum(&self, table: &[[u64; number::HOW_MANY]; Job::ALL.len()], number: usize) -> u64 {
-        table.iter().map(|row| row[number]).sum()
-    }
-
     pub fn print(&self) {
         self.print_numbers();
         let cases: u64 = self.met.iter().flatten().sum();
         println!("cases {cases}; files {}", 3 * (self.valid_sets + self.damaged_sets));
         println!("sets of three files: valid {}, damaged {}", self.valid_sets, self.damaged_sets);
         println!(
-            "output areas long {}, exact {}, short {}, empty {}; details areas not of 16 bytes {}",
-            self.areas_long, self.areas_exact, self.areas_short, self.areas_empty, self.details_of_other_size
+            "output areas long {}, exact {}, short {}, empty {}",
+            self.areas_long, self.areas_exact, self.areas_short, self.areas_empty
         );
         println!(
             "runs of demand 3 walked: good {}, good but for lines that serve a series in part {}, bad {}",
             self.runs_good, self.runs_good_in_part, self.runs_bad
         );
+        self.reach.print();
     }
 
-    /// How often each number was met, in all and by each call.
+    /// What was not reached by a comparison that went to its end, or should not have been.
+    pub fn print_failed(&self) {
+        self.checks().iter().filter(|check| !check.1).for_each(|check| println!("failed: {}", check.0));
+    }
+
+    /// How often each number was met, in all and by each call; a dash where a call cannot give it.
     fn print_numbers(&self) {
-        print!("number      all");
+        print!("number          all");
         Job::ALL.iter().for_each(|job| print!(" {:>16}", job.name()));
         println!();
-        for number in 0..number::HOW_MANY {
-            print!("{number:>6} {:>8}", self.sum(&self.met, number));
-            Job::ALL.iter().for_each(|&job| print!(" {:>16}", self.met[job as usize][number]));
+        for row in 0..ROWS {
+            print!("{:>10} {:>8}", row_name(row), self.met.iter().map(|of_job| of_job[row]).sum::<u64>());
+            Job::ALL.iter().for_each(|&job| print!(" {:>16}", self.cell(job, row)));
             println!();
         }
     }
 
-    /// How many of the numbers and of the calls were met and agreed on, and how many were not.
+    fn cell(&self, job: Job, row: usize) -> String {
+        match self.met[job as usize][row] {
+            0 if !can_be_met(job, row) => "-".to_string(),
+            met => met.to_string(),
+        }
+    }
+
+    /// By name, what must be so: each job gave each number that it can give and no other, with no answer that differed, and full size was
+    /// reached.
+    fn checks(&self) -> Vec<(String, bool)> {
+        let mut checks = Vec::new();
+        for job in Job::ALL {
+            for row in 0..ROWS {
+                let (met, disagreed) = (self.met[job as usize][row], self.disagreed[job as usize][row]);
+                let wanted = can_be_met(job, row);
+                if wanted || met > 0 {
+                    checks.push((format!("{} {}", job.name(), row_name(row)), wanted && met > 0 && disagreed == 0));
+                }
+            }
+        }
+        checks.extend(self.reach.checks());
+        checks
+    }
+
     pub fn passed_and_failed(&self) -> (usize, usize) {
-        let number_passes = |number: &usize| self.sum(&self.met, *number) > 0 && self.sum(&self.disagreed, *number) == 0;
-        let job_passes = |job: &&Job| {
-            let (met, disagreed) = (self.met[**job as usize], self.disagreed[**job as usize]);
-            met.iter().sum::<u64>() > 0 && disagreed.iter().sum::<u64>() == 0
-        };
-        let passed = (0..number::HOW_MANY).filter(number_passes).count() + Job::ALL.iter().filter(job_passes).count();
-        (passed, number::HOW_MANY + Job::ALL.len() - passed)
+        let checks = self.checks();
+        let passed = checks.iter().filter(|check| check.1).count();
+        (passed, checks.len() - passed)
+    }
+}
+
+fn can_be_met(job: Job, row: usize) -> bool {
+    row == OTHER_DETAILS || job.can_give(row as u32)
+}
+
+#[cfg(test)]
+mod tests {
+    use super::*;
+
+    fn count(tally: &mut Tally, job: Job, number: u32, details_size: usize, agreed: bool) {
+        let details = vec![0; details_size];
+        let call = Call { job, request: &[], assignment: &[], table: &[], budget: 0, output: Vec::new(), details: details.clone() };
+        let answer = Answer { number, output: Vec::new(), details, stayed_inside: true };
+        tally.count(&Asked { call, needed: None, circuits: 0 }, &answer, agreed);
+    }
+
+    /// Every job met each number that it can give, but for one number of one job.
+    fn all_but(left_out: Option<(Job, u32)>) -> Tally {
+        let mut tally = Tally::default();
+        for job in Job::ALL {
+            let numbers = (0..number::HOW_MANY as u32).filter(|&number| job.can_give(number) && left_out != Some((job, number)));
+            numbers.for_each(|number| count(&mut tally, job, number, DETAILS_SIZE, true));
+            count(&mut tally, job, number::TOO_SHORT, 0, true);
+        }
+        tally
+    }
+
+    /// The names of what failed, without the marks of full size.
+    fn failed(tally: &Tally) -> Vec<String> {
+        let marks = tally.reach.checks().len();
+        let checks = tally.checks();
+        let cells = &checks[..checks.len() - marks];
+        cells.iter().filter(|check| !check.1).map(|check| check.0.clone()).collect()
+    }
+
+    #[test]
+    fn each_number_is_wanted_of_each_job_that_can_give_it() {
+        assert!(failed(&all_but(None)).is_empty());
+        assert_eq!(failed(&all_but(Some((Job::MakeTables, number::CLASH)))), ["make_tables 12"]);
+        assert_eq!(failed(&all_but(Some((Job::Read, number::AFTER_END)))), ["read 7"]);
+    }
+
+    #[test]
+    fn no_job_may_give_a_number_that_it_cannot_give() {
+        let mut tally = all_but(None);
+        count(&mut tally, Job::Read, number::OFFSETS, DETAILS_SIZE, true);
+        assert_eq!(failed(&tally), ["read 8"]);
+    }
+
+    #[test]
+    fn one_answer_that_differs_fails_its_number() {
+        let mut tally = all_but(None);
+        count(&mut tally, Job::Allocate, number::NO_ROOM, DETAILS_SIZE, false);
+        assert_eq!(failed(&tally), ["allocate 10"]);
+    }
+
+    #[test]
+    fn details_of_another_length_are_no_short_output_area() {
+        let mut tally = all_but(Some((Job::Allocate, number::TOO_SHORT)));
+        count(&mut tally, Job::Allocate, number::TOO_SHORT, 15, true);
+        assert_eq!(failed(&tally), ["allocate 17"]);
+        count(&mut tally, Job::Allocate, number::TOO_SHORT, DETAILS_SIZE, true);
+        assert!(failed(&tally).is_empty());
+        assert_eq!(tally.met[Job::Allocate as usize][OTHER_DETAILS], 2);
+    }
+
+    #[test]
+    fn full_size_must_be_reached() {
+        let (_, failed) = all_but(None).passed_and_failed();
+        assert_eq!(failed, Reach::default().checks().len());
     }
 }

@@ -1,26 +1,22 @@
 -- What callers know of a line of a table file without a fault: where it stands, and that it is good. Assumes nothing.
 use Prim.Native.Nat.{ℕ, zero, suc, _+_, _≤_, _<_}
-use mathlib.Core.Path.{_≡_, refl, sym, ap, subst, _∙_}
-use mathlib.Core.Logic.{_⊎_, inl, inr, ⊎-elim}
-use mathlib.Core.Bool.{Bool, true, false}
+use mathlib.Core.Path.{_≡_, refl, sym, ap, _∙_}
+use mathlib.Core.Bool.{false}
 use mathlib.Core.List.{List, [], _∷_, _++_}
 use native.Mathlib.Nat.{not-suc-le-zero}
 use native.Mathlib.Omega.{arith}
-use borrow.Author.Tests.{ltb-false, leb-false, eqb-true}
-use lib.Dec.{ltb, eqb, ltb→lt, eqb→eq}
 use lib.ListN.{length, getD, length-map, List·getD-append}
-use Rattle.model.specs.Sizes.{linesMost, local, headSize, lineKind, lineSize}
-use Rattle.model.specs.Tests.{_and_, neg}
+use Rattle.model.specs.Sizes.{linesMost, headSize, lineKind, lineSize}
 use Rattle.model.specs.Bytes.{lengthAt}
-use Rattle.model.specs.Network.{Network, fromRouter, toRouter}
+use Rattle.model.specs.Network.{Network}
 use Rattle.model.specs.Lines.{lineOf, noLine}
-use Rattle.model.specs.Reading.{Walked, complete, stopped, starts, badIn, badOut, lineVerdict, tableStep, tableWalk, lineAt, table}
+use Rattle.model.specs.Sound.{SoundLine}
+use Rattle.model.specs.Reading.{Walked, complete, stopped, starts, lineVerdict, tableStep, tableWalk, lineAt, table}
 use Rattle.model.specs.declared.Step.the-variants.{Next}
-use Rattle.model.specs.declared.Verdict.the-variants.{Fine}
-use Rattle.model.proofs.Tests.{same, and→, neg-eq, neg-neg→, getD-map}
+use Rattle.model.proofs.Tests.{same, getD-map}
 use Rattle.model.proofs.Records.{Row, Comes, walk-comes, Passes, step-says}
-use Rattle.model.proofs.Readers.{lines-free, line-tests}
-use Rattle.file_line.specs.Parts.{lineStart, LineIn, LeadsTo, OwnedBy, GoodLine}
+use Rattle.model.proofs.Readers.{line-tests, table-sound}
+use Rattle.file_line.specs.Parts.{lineStart, LineIn}
 
 -- ---- where the lines stand
 
@@ -47,29 +43,6 @@ start-is net s m h = go (tableWalk net s) h (walk-comes (tableStep net s) (suc l
 
 -- ---- a line without a fault
 
--- buffer b is one of n, and its router x is the one wanted
-known : (b n x router : ℕ) → neg (ltb b n and eqb x router) ≡ false → (b < n) × (x ≡ router)
-known b n x router e =
-    let t = and→ (ltb b n) (eqb x router) (neg-neg→ (ltb b n and eqb x router) (neg-eq _ e)) in
-    (ltb→lt b n (t .0), eqb→eq x router (t .1))
-
-either : (a b : Bool) → (neg a and b) ≡ false → (a ≡ true) ⊎ (b ≡ false)
-unfolding neg _and_
-either true b e = inl refl
-either false b e = inr e
-
-module _ (net : Network) (router b : ℕ) where
-  in-good : badIn net router b ≡ false → (b ≡ local) ⊎ LeadsTo net b router
-  unfolding badIn
-  in-good e =
-      ⊎-elim (λ t. inl (eqb-true b local t))
-      (λ f. let t = known b (length (net .links)) (toRouter net b) router f in inr (record { known = t .0; to = t .1 }))
-      (either (eqb b local) (neg (ltb b (length (net .links)) and eqb (toRouter net b) router)) e)
-
-  out-good : badOut net router b ≡ false → OwnedBy net b router
-  unfolding badOut
-  out-good e = let t = known b (length (net .links)) (fromRouter net b) router e in record { known = t .0; from = t .1 }
-
 module _ (net : Network) (s : List ℕ) (m : ℕ) (here : LineIn net s m) where
   listed : m < length (starts (tableWalk net s))
   unfolding table
@@ -80,17 +53,5 @@ module _ (net : Network) (s : List ℕ) (m : ℕ) (here : LineIn net s m) where
   unfolding table
   line-is = getD-map (lineAt s) (starts (tableWalk net s)) m 0 noLine listed ∙ ap (lineAt s) (start-is net s m listed)
 
-  fine : lineVerdict net s m (lineStart m) ≡ Fine
-  fine = subst (λ (p : ℕ). lineVerdict net s m p ≡ Fine) (start-is net s m listed) (lines-free net s (here .whole) .fine m listed)
-
-  pub line-good : GoodLine net (lineAt s (lineStart m))
-  line-good =
-      let t = line-tests net s m (lineStart m) fine .1 .1 .1 in
-      record {
-        router = leb-false _ _ (t .0);
-        some = ltb-false _ _ (t .1 .0);
-        short = ltb-false _ _ (t .1 .1 .0);
-        slot = leb-false _ _ (t .1 .1 .1 .0);
-        inp = in-good net _ _ (t .1 .1 .1 .1 .1 .0);
-        out = out-good net _ _ (t .1 .1 .1 .1 .1 .1 .0);
-      }
+  pub line-good : SoundLine net (lineAt s (lineStart m))
+  line-good = rw line-is at (table-sound net s (here .whole) .each m (here .low))

@@ -18,11 +18,11 @@ use Rattle.model.specs.Holding.{offsetsOf}
 use Rattle.model.specs.Lines.{Line, Series, lineOf, meets?, serves?, series, offsetOf, oneLine, partLine, twoLine, seriesFault, linesFault}
 use Rattle.model.specs.Reading.{tableWalk, table}
 use Rattle.model.specs.Answers.{damage}
-use Rattle.model.proofs.Tests.{and→, →and, eq→eqb, least-is, least-unique, bool-same}
-use Rattle.model.specs.Sound.{SoundRequest}
+use Rattle.model.proofs.Tests.{and→, →and, eq→eqb, least-same, bool-same}
+use Rattle.model.specs.Sound.{SoundRequest, LeadsTo, SoundLine}
 use Rattle.model.proofs.Sound.{hop-small}
 use Rattle.model.proofs.Readers.{table-sound}
-use Rattle.file_line.specs.Parts.{LineIn, LeadsTo, GoodLine}
+use Rattle.file_line.specs.Parts.{LineIn}
 use Rattle.file_line.proofs.Parts.{line-is, line-good}
 use Rattle.plan.specs.Plan.{circuitsIn, sendCount, portOf, portIn, sendIn, Stands}
 use Rattle.plan.proofs.Laws.{cycle-is, send-count-is, send-is, port-is}
@@ -31,18 +31,6 @@ use Rattle.line_series.specs.Judging.{agreesOf, coversOf, meetsAt, partAt, oneO
 use Rattle.line_check.specs.Checks.{firstOf, offsetFault, circuitFault, Facts}
 
 -- ---- tests and searches that agree
-
--- two tests agree where each passes with the other
-least-same : (n : ℕ) (f g : ℕ → Bool) → ((i : ℕ) → i < n → f i ≡ g i) → least n f ≡ least n g
-least-same n f g same =
-    let l = least-is n f in
-    least-unique n g
-    (record {
-      within = l .within;
-      found = λ h. rw (same (least n f) h) at (l .found h);
-      first = λ j h t. l .first j h (rw (same j (omega (arith, l .within))) t);
-    })
-    (least-is n g)
 
 module _ {A : Type 0} where
   first-same : (n : ℕ) (f g : ℕ → Option A) → ((i : ℕ) → i < n → f i ≡ g i) → first n f ≡ first n g
@@ -70,7 +58,7 @@ port-is-local router i e = rw (eq-eqb i local e) refl
 port-is-buffer : (router i : ℕ) → i < buffersMost → portOf router i ≡ i
 port-is-buffer router i h = rw (ne-eqb i local (λ e. omega arith)) refl
 
-module _ (net : Network) (small : length (net .links) ≤ buffersMost) (l : Line) (good : GoodLine net l) (s : Series) (port : ℕ) where
+module _ (net : Network) (small : length (net .links) ≤ buffersMost) (l : Line) (good : SoundLine net l) (s : Series) (port : ℕ) where
   -- it stands there where router and in are the line's
   same-port : AtPort net s port → l .router ≡ s .router → l .inp ≡ s .inp → portOf (l .router) (l .inp) ≡ port
   same-port (at-local i p) er ei = port-is-local (l .router) (l .inp) (ei ∙ i) ∙ ap inportOf er ∙ sym p
@@ -117,7 +105,7 @@ module _ (q : Request) (sound : SoundRequest q) (t : List ℕ) (whole : damage t
   unfolding portAt
   port-low m h = pick (good .inp)
     where
-      good : GoodLine net (lineIn t m)
+      good : SoundLine net (lineIn t m)
       good = line-good net t m (line-at m h)
 
       pick : (lineIn t m .inp ≡ local) ⊎ LeadsTo net (lineIn t m .inp) (lineIn t m .router) → portOf (lineIn t m .router) (lineIn t m .inp) < resourcesMost

@@ -14,10 +14,10 @@ rem-result-2 : tie.Need-rem-result-2
 rem-result-2 c = search needs
 
 sub-result : tie.Need-sub-result
-sub-result c = omega (arith, mod-lt (c .args .b) (c .pre .low))
+sub-result c = omega (arith, mod-lt (c .args .a) (c .pre .low), mod-lt (c .args .b) (c .pre .low))
 
 add-result : tie.Need-add-result
-add-result c = omega (arith, mod-lt (c .args .a) (c .pre .low))
+add-result c = omega (arith, mod-lt (c .args .a) (c .pre .low), mod-lt (c .args .b) (c .pre .low))
 
 rem-result-3 : tie.Need-rem-result-3
 rem-result-3 c = search needs
