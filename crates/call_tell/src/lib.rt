@@ -12,10 +12,11 @@ fn put_number(out: &mut [u8], at: usize, x: u32)
     requires { ⌜ at + 4 ≤ length (now out) ⌝ }
     ensures { λ _. ⌜ now (out .exit) ≡ pasted (now (out .entry)) at (long x) ⌝ }
 {
-    out[at] = (x % 256) as u8;
-    out[at + 1] = (x / 256 % 256) as u8;
-    out[at + 2] = (x / 65536 % 256) as u8;
-    out[at + 3] = (x / 16777216 % 256) as u8;
+    let low = (x % 256) as u8;
+    let second = (x / 256 % 256) as u8;
+    let third = (x / 65536 % 256) as u8;
+    let high = (x / 16777216 % 256) as u8;
+    file_writer::put_four(out, at, low, second, third, high);
 }
 
 // Writes the details of an answer, and tells its number.

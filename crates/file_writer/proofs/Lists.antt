@@ -12,11 +12,6 @@ use Rattle.model.proofs.Tests.{length-upTo, getD-upTo}
 -- ---- by number
 
 module _ {A : Type 0} where
-  pub map-upTo : {B : Type 0} (g : A → B) (n : ℕ) (f : ℕ → A) → map g (upTo n f) ≡ upTo n (λ i. g (f i))
-  unfolding upTo
-  map-upTo g zero f = refl
-  map-upTo g (suc n) f = ap (λ l. g (f 0) ∷ l) (map-upTo g n (λ i. f (suc i)))
-
   pub map-by-number : {B : Type 0} (g : A → B) (l : List A) (d : A) → map g l ≡ upTo (length l) (λ i. g (getD l i d))
   unfolding upTo
   map-by-number g [] d = refl

@@ -9,10 +9,10 @@ use lib.Dec.{eqb}
 use lib.ListN.{length, getD, length-append}
 use Rattle.model.specs.Sizes.{cycleMost, hopsMost, headSize, lineSize}
 use Rattle.model.specs.Tests.{upTo, joined, sum}
-use Rattle.model.proofs.Tests.{length-upTo, upTo-same}
+use Rattle.model.proofs.Tests.{length-upTo, upTo-same, map-upTo}
 use Rattle.num_mask.specs.Bits.{places, offsets}
 use Rattle.plan.specs.Plan.{circuitsIn, sendCount, InBounds}
-use Rattle.file_writer.proofs.Lists.{map-upTo, joined-length, sum-more}
+use Rattle.file_writer.proofs.Lists.{joined-length, sum-more}
 use Rattle.line_record.specs.Record.{sendBytes}
 use Rattle.line_record.proofs.Record.{send-length}
 use Rattle.line_maker.specs.Files.{offsetBytes, circuitBytes, linesSize, tableSize}

@@ -11,11 +11,11 @@ use Rattle.model.specs.Network.{Request, circuitOf, hops}
 use Rattle.model.specs.Holding.{offsetsOf}
 use Rattle.model.specs.Lines.{offsetOf, linesFor}
 use Rattle.model.specs.Jobs.{tableBytes}
-use Rattle.model.proofs.Tests.{upTo-same}
+use Rattle.model.proofs.Tests.{upTo-same, map-upTo}
 use Rattle.plan.specs.Plan.{circuitsIn, sendCount, Booked}
 use Rattle.plan.proofs.Laws.{send-count-is}
 use Rattle.file_writer.proofs.Files.{file-length}
-use Rattle.file_writer.proofs.Lists.{map-upTo, map-by-number, joined-map}
+use Rattle.file_writer.proofs.Lists.{map-by-number, joined-map}
 use Rattle.line_record.proofs.Record.{ofSend, send-line}
 use Rattle.line_maker.specs.Files.{offsetBytes, circuitBytes, tableSize}
 use Rattle.line_maker.proofs.Sizes.{partOf, parts, table-length}

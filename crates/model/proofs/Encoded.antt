@@ -18,7 +18,7 @@ use Rattle.model.specs.Jobs.{linkBytes, networkBytes, circuitBytes, requ
 use Rattle.model.specs.declared.Verdict.{Verdict}
 use Rattle.model.specs.declared.Verdict.the-variants.{Fine, Faulty}
 use Rattle.model.specs.declared.Step.the-variants.{End}
-use Rattle.model.proofs.Tests.{same, length-upTo}
+use Rattle.model.proofs.Tests.{same, length-upTo, map-upTo}
 use Rattle.model.proofs.Records.{Ends, step-says, Comes, walk-comes, stepIn, passes-at}
 use Rattle.model.proofs.Written.{length-pieces, fileOf}
 use Rattle.model.proofs.Readers.{network-tests, circuit-tests, early, offsets-tests, line-tests, walkedBy}
@@ -29,11 +29,6 @@ drop-byte : (s : List ℕ) (p : ℕ) → p < length s → drop p s ≡ byteAt s 
 drop-byte [] p h = absurd (not-suc-le-zero h)
 drop-byte (x ∷ s) zero h = refl
 drop-byte (x ∷ s) (suc p) h = drop-byte s p (le-of-suc-le-suc h)
-
-map-upTo : {A B : Type 0} (g : A → B) (n : ℕ) (f : ℕ → A) → map g (upTo n f) ≡ upTo n (λ i. g (f i))
-unfolding upTo
-map-upTo g zero f = refl
-map-upTo g (suc n) f = ap (λ l. g (f 0) ∷ l) (map-upTo g n (λ i. f (suc i)))
 
 module _ (s : List ℕ) where
   -- one byte, and several of them

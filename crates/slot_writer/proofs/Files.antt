@@ -8,12 +8,12 @@ use Rattle.model.specs.Sizes.{headSize, offsetsKind, endKind}
 use Rattle.model.specs.Tests.{upTo, joined, sum}
 use Rattle.model.specs.Bytes.{recordOf}
 use Rattle.model.specs.Jobs.{assignmentBytes}
-use Rattle.model.proofs.Tests.{upTo-back, upTo-same}
+use Rattle.model.proofs.Tests.{upTo-back, upTo-same, map-upTo}
 use Rattle.model.proofs.Written.{length-record}
 use Rattle.num_mask.specs.Bits.{offsets}
 use Rattle.plan.specs.Plan.{circuitsIn}
 use Rattle.file_writer.proofs.Files.{file-length}
-use Rattle.file_writer.proofs.Lists.{map-upTo, joined-length}
+use Rattle.file_writer.proofs.Lists.{joined-length}
 use Rattle.slot_writer.specs.Files.{offsetsRecord, assignmentRoom, MasksFor}
 
 -- the record of circuit c, and all records
