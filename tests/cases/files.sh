@@ -1,5 +1,7 @@
-# files that cannot be read or written are told by name
-vask read nothing-here
-vask read examples
-vask allocate examples/net-p/request no-folder/assignment
-vask verify examples/net-p/request examples/net-p/assignment nothing-here
+# files that cannot be read are told by name, to book too
+told read nothing-here
+told read examples
+told verify examples/net-p/request examples/net-p/assignment nothing-here
+told show examples
+told read - <examples
+book <examples

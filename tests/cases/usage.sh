@@ -1,7 +1,10 @@
-# no words, too few, too many, and none that is known
-vask
-vask read | head -n 1
-vask read a b | head -n 1
-vask book examples/net-p/request | head -n 1
-vask verify a b | head -n 1
-vask a-job-with-a-name-that-is-too-long examples/net-p/request | head -n 1
+# no words, too few, too many, none that is known; help and version
+told
+told read
+told read a b
+told book examples/net-p/request
+told verify a b
+told read --fast examples/net-p/request
+told --version
+told --help | head -n 1
+for job in read allocate check make verify show; do vask $job --help | head -n 3; done

@@ -1,5 +1,6 @@
 // The booking program: reads a request from standard input, allocates slots with a budget of 1,000,000 visits, makes the table and
-// writes its lines; or writes what was refused. Assumes what crate io assumes of the system's calls.
+// writes its lines; or writes what was refused. Where standard input cannot be read it says so on standard error and writes nothing else.
+// Assumes what crates io and os assume of the system's calls.
 use libc::STDIN_FILENO;
 use model::Answer;
 
@@ -7,8 +8,19 @@ const BUDGET: u32 = 1_000_000;
 
 fn main() {
     let mut request = io::buffer();
+    clear_error();
     let size = io::read_full(STDIN_FILENO, &mut request);
+    if os::errno() != 0 {
+        os::fail(b"standard input");
+        return;
+    }
     book(&request[..size]);
+}
+
+// Sets errno to 0, as asking for an argument that fits does, so that it tells of a read that failed and of nothing else.
+fn clear_error() {
+    let mut name = io::buffer();
+    os::arg(0, &mut name);
 }
 
 fn book(request: &[u8]) {

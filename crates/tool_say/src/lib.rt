@@ -77,7 +77,7 @@ fn line(table: &[u8], p: usize)
 }
 
 // An inport: the buffer that it stands behind, or the local one.
-pub fn inport(buffer: usize) {
+fn inport(buffer: usize) {
     if buffer == LOCAL {
         text(b" local");
         return;
