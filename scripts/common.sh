@@ -62,7 +62,7 @@ need_programs() {
 on_rust() {
     command=$1
     shift
-    cargo "$command" --release --offline --quiet --manifest-path rust/Cargo.toml "$@"
+    cargo "$command" --release --offline --quiet --manifest-path rust/Cargo.toml --target-dir rust/target "$@"
 }
 
 # run_x86 PROGRAM WORDS..: a program for x86-64 with the C library, as those in Rattle are

@@ -1,5 +1,5 @@
 //! The words of the command line. Assumes nothing.
-use crate::help::{self, Job};
+use crate::help::{self, Entry};
 use std::ffi::{OsStr, OsString};
 
 /// The budget of a search where none is given.
@@ -10,12 +10,18 @@ const BUDGET: u32 = 1_000_000;
 pub enum Action {
     Help(String),
     Version,
-    Read(OsString),
+    Show(OsString),
+    Do(Job),
+}
+
+/// A job of the library on files.
+#[derive(Debug, PartialEq)]
+pub enum Job {
+    Read { request: OsString },
     Allocate { request: OsString, assignment: OsString, budget: u32 },
     Check { request: OsString, assignment: OsString },
     Make { request: OsString, assignment: OsString, table: OsString },
     Verify { request: OsString, assignment: OsString, table: OsString },
-    Show(OsString),
 }
 
 #[derive(Debug, PartialEq)]
@@ -48,7 +54,7 @@ pub fn parse(words: impl Iterator<Item = OsString>) -> Parsed {
     Parsed { json, action }
 }
 
-fn named(word: Option<&OsString>) -> Option<&'static Job> {
+fn named(word: Option<&OsString>) -> Option<&'static Entry> {
     word.and_then(|word| word.to_str()).and_then(help::job)
 }
 
@@ -60,7 +66,7 @@ fn unknown(option: &str, job: Option<&OsString>) -> String {
     format!("there is no option {option}{}", see(named(job)))
 }
 
-fn see(job: Option<&Job>) -> String {
+fn see(job: Option<&Entry>) -> String {
     match job {
         Some(job) => format!("; `vask {} --help` says more", job.name),
         None => "; `vask --help` says more".to_string(),
@@ -84,19 +90,20 @@ fn action(mut names: Vec<OsString>) -> Result<Action, String> {
 }
 
 /// The action of a job with these words; nothing where they are too few or too many.
-fn of_job(job: &Job, words: [Option<OsString>; 4]) -> Option<Result<Action, String>> {
-    Some(Ok(match (job.name, words) {
-        ("read", [Some(request), None, None, None]) => Action::Read(request),
-        ("show", [Some(file), None, None, None]) => Action::Show(file),
-        ("allocate", [Some(request), Some(assignment), None, None]) => Action::Allocate { request, assignment, budget: BUDGET },
-        ("allocate", [Some(request), Some(assignment), Some(budget), None]) => {
-            return Some(budget_of(&budget).map(|budget| Action::Allocate { request, assignment, budget }));
-        }
-        ("check", [Some(request), Some(assignment), None, None]) => Action::Check { request, assignment },
-        ("make", [Some(request), Some(assignment), Some(table), None]) => Action::Make { request, assignment, table },
-        ("verify", [Some(request), Some(assignment), Some(table), None]) => Action::Verify { request, assignment, table },
+fn of_job(job: &Entry, words: [Option<OsString>; 4]) -> Option<Result<Action, String>> {
+    let job = match (job.name, words) {
+        ("show", [Some(file), None, None, None]) => return Some(Ok(Action::Show(file))),
+        ("read", [Some(request), None, None, None]) => Job::Read { request },
+        ("allocate", [Some(request), Some(assignment), budget, None]) => match budget.map_or(Ok(BUDGET), |word| budget_of(&word)) {
+            Ok(budget) => Job::Allocate { request, assignment, budget },
+            Err(message) => return Some(Err(message)),
+        },
+        ("check", [Some(request), Some(assignment), None, None]) => Job::Check { request, assignment },
+        ("make", [Some(request), Some(assignment), Some(table), None]) => Job::Make { request, assignment, table },
+        ("verify", [Some(request), Some(assignment), Some(table), None]) => Job::Verify { request, assignment, table },
         _ => return None,
-    }))
+    };
+    Some(Ok(Action::Do(job)))
 }
 
 fn budget_of(word: &OsStr) -> Result<u32, String> {
@@ -119,9 +126,9 @@ mod tests {
 
     #[test]
     fn jobs_take_their_files() {
-        let check = Action::Check { request: "r".into(), assignment: "a".into() };
-        assert_eq!(parsed("check r a"), Parsed { json: false, action: Ok(check) });
-        let allocate = |budget| Ok(Action::Allocate { request: "r".into(), assignment: "-".into(), budget });
+        let check = Job::Check { request: "r".into(), assignment: "a".into() };
+        assert_eq!(parsed("check r a"), Parsed { json: false, action: Ok(Action::Do(check)) });
+        let allocate = |budget| Ok(Action::Do(Job::Allocate { request: "r".into(), assignment: "-".into(), budget }));
         assert_eq!(parsed("allocate r -").action, allocate(BUDGET));
         assert_eq!(parsed("allocate r - 4294967295").action, allocate(u32::MAX));
         assert_eq!(parsed("show -- --help").action, Ok(Action::Show("--help".into())));

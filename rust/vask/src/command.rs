@@ -1,6 +1,6 @@
 //! The command from its words to its exit status: 0 done, 1 refused, 2 wrong usage or a file that cannot be read or written. Assumes
 //! standard output and standard error.
-use crate::arguments::{parse, Action, Parsed};
+use crate::arguments::{parse, Action, Job, Parsed};
 use crate::report::failure_json;
 use crate::{files, help, job, show};
 use std::ffi::{OsStr, OsString};
@@ -37,13 +37,13 @@ fn status(words: Vec<OsString>) -> u8 {
         Action::Help(text) => say(text),
         Action::Version => say(help::VERSION),
         Action::Show(name) => return show_file(json, name),
-        _ => return do_job(json, &action),
+        Action::Do(job) => return do_job(json, job),
     };
     said.map_or_else(|message| fail(json, &message), |()| DONE)
 }
 
-fn do_job(json: bool, action: &Action) -> u8 {
-    let reported = match job::act(action) {
+fn do_job(json: bool, job: &Job) -> u8 {
+    let reported = match job::act(job) {
         Ok(reported) => reported,
         Err(message) => return fail(json, &message),
     };

@@ -1,53 +1,74 @@
 //! The help: of the whole command and of each job. Assumes nothing.
 
 /// A job of the command: its name, the words behind it, and what it is for.
-pub struct Job {
+pub struct Entry {
     pub name: &'static str,
     pub words: &'static str,
     pub asks: &'static str,
     more: &'static str,
 }
 
-pub const JOBS: [Job; 6] = [
-    Job {
+pub const JOBS: [Entry; 6] = [
+    Entry {
         name: "read",
         words: "REQUEST",
         asks: "is the request in order?",
-        more: "Reads the network and the circuits of REQUEST. Where something is wrong with the file, says which field of which record, its value, and what is allowed.\nPrints `done`.",
+        more: "\
+Reads the network and the circuits of REQUEST. Where something is wrong with the file, says
+which field of which record, its value, and what is allowed.
+Prints `done`.",
     },
-    Job {
+    Entry {
         name: "allocate",
         words: "REQUEST ASSIGNMENT [BUDGET]",
         asks: "give slots to its circuits, and write them to ASSIGNMENT",
-        more: "Finds the first choice of offsets, in order, with which no two circuits ever hold one buffer or one local inport together.\nBUDGET is how many choices the search may enter: 1000000 where it is not given, 4294967295 at most. A larger budget never changes an answer other than `unfinished`. Where there is no room, says which circuits alone have none.\nPrints `done visits V bytes B`.",
+        more: "\
+Finds the first choice of offsets, in order, with which no two circuits ever hold one buffer
+or one local inport together.
+BUDGET is how many choices the search may enter: 1000000 where it is not given, 4294967295
+at most. A larger budget never changes an answer other than `unfinished`. Where there is no
+room, says which circuits alone have none.
+Prints `done visits V bytes B`.",
     },
-    Job {
+    Entry {
         name: "check",
         words: "REQUEST ASSIGNMENT",
         asks: "do two circuits ever clash?",
-        more: "Done exactly where no two circuits ever hold one buffer or one local inport in one slot, over all time. Else tells the first clash, which offsets bring it about, and the slot in which packets first meet.\nPrints `done`.",
+        more: "\
+Done exactly where no two circuits ever hold one buffer or one local inport in one slot,
+over all time. Else tells the first clash, which offsets bring it about, and the slot in
+which packets first meet.
+Prints `done`.",
     },
-    Job {
+    Entry {
         name: "make",
         words: "REQUEST ASSIGNMENT TABLE",
         asks: "make the lines that the slots need, and write them to TABLE",
-        more: "Refuses an assignment in which two circuits clash.\nPrints `done bytes B lines L`.",
+        more: "\
+Refuses an assignment in which two circuits clash.
+Prints `done bytes B lines L`.",
     },
-    Job {
+    Entry {
         name: "verify",
         words: "REQUEST ASSIGNMENT TABLE",
         asks: "do these lines carry every packet, for ever?",
-        more: "Takes a table from any tool. Done exactly where the network, started empty and steered by these lines alone, carries every packet along its path for ever, and each line serves all of a series or none of it. Else tells the first series that is not served, and the line that it needs.\nPrints `done`.",
+        more: "\
+Takes a table from any tool. Done exactly where the network, started empty and steered by
+these lines alone, carries every packet along its path for ever, and each line serves all of
+a series or none of it. Else tells the first series that is not served, and the line that it
+needs.
+Prints `done`.",
     },
-    Job {
+    Entry {
         name: "show",
         words: "FILE",
         asks: "list the records of a request, an assignment or a table",
-        more: "One record to a line, whatever is wrong with the file.",
+        more: "\
+One record to a line, whatever is wrong with the file.",
     },
 ];
 
-pub fn job(name: &str) -> Option<&'static Job> {
+pub fn job(name: &str) -> Option<&'static Entry> {
     JOBS.iter().find(|job| job.name == name)
 }
 
@@ -77,6 +98,6 @@ pub fn whole() -> String {
         + COMMON
 }
 
-pub fn of_job(job: &Job) -> String {
+pub fn of_job(job: &Entry) -> String {
     format!("usage: vask {} {}\n\n{}\n\n{}\n\n{COMMON}", job.name, job.words, job.asks, job.more)
 }

@@ -1,5 +1,5 @@
 //! The five jobs on files: read them, ask the library, write what it made, report. Assumes nothing of the files.
-use crate::arguments::Action;
+use crate::arguments::Job;
 use crate::files::{self, is_standard, Input};
 use crate::output::Output;
 use crate::report::Report;
@@ -22,26 +22,25 @@ impl From<Report> for Reported {
 }
 
 /// Does a job; an error is wrong usage or a file that cannot be read or written.
-pub fn act(action: &Action) -> Result<Reported, String> {
-    match action {
-        Action::Read(request) => {
+pub fn act(job: &Job) -> Result<Reported, String> {
+    match job {
+        Job::Read { request } => {
             let [request] = inputs([request])?;
             let asked = read_request(&request.bytes);
             Ok(checked("read", asked, Files { request: &request.bytes, ..Files::default() }))
         }
-        Action::Allocate { request, assignment, budget } => allocate(request, assignment, *budget),
-        Action::Check { request, assignment } => {
+        Job::Allocate { request, assignment, budget } => allocate(request, assignment, *budget),
+        Job::Check { request, assignment } => {
             let [request, assignment] = inputs([request, assignment])?;
             let asked = check_assignment(&request.bytes, &assignment.bytes);
             Ok(checked("check", asked, Files { request: &request.bytes, assignment: &assignment.bytes, table: &[] }))
         }
-        Action::Make { request, assignment, table } => make(request, assignment, table),
-        Action::Verify { request, assignment, table } => {
+        Job::Make { request, assignment, table } => make(request, assignment, table),
+        Job::Verify { request, assignment, table } => {
             let [request, assignment, table] = inputs([request, assignment, table])?;
             let asked = check_tables(&request.bytes, &assignment.bytes, &table.bytes);
             Ok(checked("verify", asked, Files { request: &request.bytes, assignment: &assignment.bytes, table: &table.bytes }))
         }
-        Action::Help(_) | Action::Version | Action::Show(_) => Err("this is no job".to_string()),
     }
 }
 

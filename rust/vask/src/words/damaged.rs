@@ -63,7 +63,9 @@ pub fn explain(file: File, fault: Fault, byte: usize, files: Files) -> Option<Ex
     let mut explanation = Explanation::default();
     explanation.add(format!("{file}, byte {byte}: {subject}{}", found.says));
     explanation.fact("file", file.to_string());
-    explanation.fact("subject", subject.trim_end_matches(": "));
+    if !subject.is_empty() {
+        explanation.fact("subject", subject.trim_end_matches(": "));
+    }
     explanation.fact("field", found.field);
     explanation.fact("byte", found.byte);
     if let Some(value) = found.value {
