@@ -4,7 +4,7 @@ use crate::arguments::{parse, Action, Job, Parsed};
 use crate::report::failure_json;
 use crate::{files, help, job, show};
 use std::ffi::{OsStr, OsString};
-use std::io::{self, Write};
+use std::io::{self, BufWriter, Write};
 use std::process::ExitCode;
 use std::thread;
 
@@ -61,8 +61,9 @@ fn show_file(json: bool, name: &OsStr) -> u8 {
         Ok(file) => file,
         Err(message) => return fail(json, &message),
     };
-    let text = if json { show::json(&file.bytes, file.is_front) } else { show::text(&file.bytes) };
-    if let Err(message) = say(&text) {
+    let mut out = BufWriter::new(io::stdout().lock());
+    let shown = if json { show::json(&file.bytes, file.is_front, &mut out) } else { show::text(&file.bytes, &mut out) };
+    if let Err(message) = said(shown.and_then(|()| out.flush())) {
         return fail(false, &message);
     }
     if file.is_front {
@@ -71,12 +72,16 @@ fn show_file(json: bool, name: &OsStr) -> u8 {
     DONE
 }
 
-/// Writes to standard output. A reader that goes away early, as `head` does, has what it wants.
 fn say(text: &str) -> Result<(), String> {
     let mut out = io::stdout().lock();
-    match out.write_all(text.as_bytes()).and_then(|()| out.flush()) {
+    said(out.write_all(text.as_bytes()).and_then(|()| out.flush()))
+}
+
+/// What became of writing to standard output. A reader that goes away early, as `head` does, has what it wants.
+fn said(written: io::Result<()>) -> Result<(), String> {
+    match written {
         Err(error) if error.kind() == io::ErrorKind::BrokenPipe => Ok(()),
-        said => said.map_err(|error| files::failed("standard output", &error)),
+        written => written.map_err(|error| files::failed("standard output", &error)),
     }
 }
 

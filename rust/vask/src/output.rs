@@ -70,6 +70,7 @@ fn refuse_inputs(shown: &str, output: Option<(u64, u64)>, inputs: &[&Input]) -> 
 /// and a file that may not be written are refused.
 fn look(name: &Path) -> io::Result<(PathBuf, Option<Metadata>)> {
     if fs::symlink_metadata(name).is_err_and(|error| error.kind() == io::ErrorKind::NotFound) {
+        fs::metadata(folder(name))?;
         return Ok((name.to_path_buf(), None));
     }
     let place = fs::canonicalize(name)?;

@@ -1,10 +1,11 @@
 //! The records of a file, one to a line, whatever is wrong with it. Assumes nothing.
 use crate::json::Json;
 use crate::record::{kind_name, records, Record, CIRCUIT, END, LINE, NETWORK, OFFSETS};
+use std::io::{self, Write};
 use vaskunoor::sizes::{COUNTS_SIZE, HEAD_SIZE, LINE_SIZE, LOCAL};
 
-pub fn text(file: &[u8]) -> String {
-    records(file).map(|record| format!("byte {}: {}\n", record.start, line(&record))).collect()
+pub fn text(file: &[u8], to: &mut impl Write) -> io::Result<()> {
+    records(file).try_for_each(|record| writeln!(to, "byte {}: {}", record.start, line(&record)))
 }
 
 /// One record in words; a network has a line for each buffer too.
@@ -77,9 +78,13 @@ fn table_line(record: &Record) -> String {
 }
 
 /// The records as JSON, in one object.
-pub fn json(file: &[u8], is_front: bool) -> String {
-    let records = Json::List(records(file).map(|record| Json::Object(fields(&record))).collect());
-    format!("{}\n", Json::Object(vec![("records", records), ("whole", Json::Flag(!is_front))]))
+pub fn json(file: &[u8], is_front: bool, to: &mut impl Write) -> io::Result<()> {
+    write!(to, "{{\"records\":[")?;
+    records(file).try_for_each(|record| {
+        let comma = if record.index == 0 { "" } else { "," };
+        write!(to, "{comma}{}", Json::Object(fields(&record)))
+    })?;
+    writeln!(to, "],\"whole\":{}}}", !is_front)
 }
 
 fn fields(record: &Record) -> Vec<(&'static str, Json)> {
