@@ -1,6 +1,8 @@
 // The booking program: reads a request from standard input, allocates slots with a budget of 1,000,000 visits, makes the table and
 // writes its lines; or writes what was refused. Where standard input cannot be read it says so on standard error and writes nothing else.
 // Assumes what crates io and os assume of the system's calls.
+#![tactic(auto)]
+
 use libc::STDIN_FILENO;
 use model::Answer;
 

@@ -1,4 +1,6 @@
 // The calls for C and other languages: the number is returned, the four details are written to an area of 16 bytes. Assumes nothing.
+#![tactic(auto)]
+
 ghost use Rattle.std.specs.Prelude.{[]};
 ghost use Rattle.model.specs.Jobs.{read, allot, check, make, verify};
 ghost use Rattle.boot.specs.Face.{Face};

@@ -1,5 +1,7 @@
 // The slots of a request that was read without a fault, written as its assignment: an area that is too short is told first, then what the
 // search comes to. Assumes nothing.
+#![tactic(auto)]
+
 ghost use Rattle.call_allot.specs.Allot.{Loaded, Allots};
 
 use model::{Answer, CIRCUITS_MOST};

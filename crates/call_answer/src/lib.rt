@@ -1,4 +1,6 @@
 // An answer as numbers: document 01's number and four details. Assumes nothing.
+#![tactic(auto)]
+
 ghost use Rattle.std.specs.Prelude.{◌≡◌};
 ghost use Rattle.model.specs.Answers.{fault_number};
 ghost use Rattle.call_answer.specs.Handed.{handed};

@@ -1,4 +1,6 @@
 // The table of an assignment that was read without a fault: a clash is told first, then an area that is too short. Assumes nothing.
+#![tactic(auto)]
+
 ghost use Rattle.plan.specs.Plan.{Slotted};
 ghost use Rattle.call_make.specs.Make.{Makes};
 

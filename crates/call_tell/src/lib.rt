@@ -1,4 +1,6 @@
 // An answer told to other languages: its number, and its four details in an area of 16 bytes. Assumes nothing.
+#![tactic(auto)]
+
 ghost use Rattle.std.specs.Prelude.{◌≡◌, ◌+◌, ◌≤◌, length};
 ghost use Rattle.model.specs.Answers.{told};
 ghost use Rattle.file_writer.specs.Pasting.{pasted};

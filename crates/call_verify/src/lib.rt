@@ -1,5 +1,7 @@
 // What speaks against an assignment and a table that were read without a fault: a clash, and then a series that is not served. What a test
 // found is handed on as it is. Assumes nothing.
+#![tactic(auto)]
+
 ghost use Rattle.plan.specs.Plan.{Slotted};
 ghost use Rattle.line_chains.specs.Chains.{Tabled};
 ghost use Rattle.call_verify.specs.Verify.{FaultIs};

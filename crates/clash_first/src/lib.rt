@@ -1,4 +1,6 @@
 // Where a plan first clashes. Assumes nothing.
+#![tactic(auto)]
+
 ghost use Rattle.plan.specs.Plan.{Slotted};
 ghost use Rattle.clash_first.specs.First.{FirstIs};
 

@@ -1,4 +1,6 @@
 // Two circuits of a plan: whether they clash, and what they hold in a slot. Assumes nothing.
+#![tactic(auto)]
+
 ghost use Rattle.std.specs.Prelude.{◌≡◌, ◌^◌, ◌<◌, get_or};
 ghost use Rattle.model.specs.Holding.{holds?, both?, clashes?};
 ghost use Rattle.plan.specs.Plan.{cycle_in, use_count, booking_in, InBounds};

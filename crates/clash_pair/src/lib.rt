@@ -1,4 +1,6 @@
 // Two circuits: when they clash, by differences of offsets modulo the common divisor. Assumes nothing.
+#![tactic(auto)]
+
 ghost use Rattle.std.specs.Prelude.{◌≡◌, ◌<◌};
 ghost use Rattle.model.specs.Sizes.{circuits_most};
 ghost use Rattle.model.specs.Holding.{clashes?};

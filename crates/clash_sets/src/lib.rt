@@ -1,4 +1,6 @@
 // The resources that circuits use, as sets of bits, and which circuits share none. Assumes nothing.
+#![tactic(auto)]
+
 ghost use Rattle.std.specs.Prelude.{◌≡◌, true, ◌<◌, length};
 ghost use Rattle.model.specs.Sizes.{circuits_most};
 ghost use Rattle.plan.specs.Plan.{circuits_in, use_count, InBounds, Usable};

@@ -1,5 +1,7 @@
 // The assignment file, read in place beside the request that it is for: the bytes where its offsets
 // records start, or its fault. Assumes nothing.
+#![tactic(auto)]
+
 ghost use Rattle.std.specs.Prelude.{◌≡◌, ◌≤◌, ◌<◌, length};
 ghost use Rattle.model.specs.Sizes.{word_end};
 ghost use Rattle.model.specs.Tests.{least};

@@ -1,4 +1,6 @@
 // The tests on a circuit record of a request, by its bytes. Assumes nothing.
+#![tactic(auto)]
+
 ghost use Rattle.std.specs.Prelude.{◌≡◌, ◌≤◌, ◌<◌, length};
 ghost use Rattle.model.specs.Sizes.{word_end};
 ghost use Rattle.model.specs.Tests.{least};

@@ -1,4 +1,6 @@
 // The parts of a line, read in place: all lines have one size, so line m starts at m times that size. Assumes nothing.
+#![tactic(auto)]
+
 ghost use Rattle.std.specs.Prelude.{◌≡◌, ◌+◌, ◌<◌};
 ghost use Rattle.model.specs.Sizes.{lines_most, word_end};
 ghost use Rattle.model.specs.Bytes.{byte_at, word_at};

@@ -1,4 +1,6 @@
 // The parts of a request without a fault, by the byte where a circuit's record starts. Assumes nothing.
+#![tactic(auto)]
+
 ghost use Rattle.std.specs.Prelude.{◌<◌};
 ghost use Rattle.model.specs.Network.{circuit_of, hops};
 ghost use Rattle.model.specs.Reading.{request};

@@ -1,5 +1,7 @@
 // Bytes and numbers of a file by position, 0 past the end, and what all three files share: the step
 // over a record, and how a reading ends.
+#![tactic(auto)]
+
 ghost use Rattle.std.specs.Prelude.{◌≡◌, ◌+◌, ◌≤◌, ◌<◌, ◌^◌, length};
 ghost use Rattle.model.specs.Sizes.{word_end};
 ghost use Rattle.model.specs.Reading.{from_place, to_place, path_place, onward, end_step, step_at, stopped};

@@ -1,5 +1,7 @@
 // Reads the bytes of a request and copies none of them: `read` tests the whole file and tells where each circuit's record
 // starts. Assumes nothing.
+#![tactic(auto)]
+
 ghost use Rattle.std.specs.Prelude.{◌≡◌, suc, ◌≤◌, [], length};
 ghost use Rattle.model.specs.Sizes.{circuits_most};
 ghost use Rattle.model.specs.Reading.{request_step, request_walk, walk};

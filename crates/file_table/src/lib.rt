@@ -1,4 +1,6 @@
 // Reads a table file in place, and stores nothing of it. Assumes nothing.
+#![tactic(auto)]
+
 ghost use Rattle.std.specs.Prelude.{◌≡◌, ◌≤◌, ◌<◌, length};
 ghost use Rattle.model.specs.Sizes.{word_end};
 ghost use Rattle.model.specs.Reading.{request, bad_in, bad_out, line_verdict, table_step};

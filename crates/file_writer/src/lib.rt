@@ -1,4 +1,6 @@
 // Bytes and records laid into an output area with room. Assumes nothing.
+#![tactic(auto)]
+
 ghost use Rattle.std.specs.Prelude.{◌≡◌, [], ◌∷◌, ◌++◌, ◌+◌, ◌≤◌, length};
 ghost use Rattle.model.specs.Sizes.{head_size, end_kind};
 ghost use Rattle.model.specs.Bytes.{word, record_of};

@@ -1,5 +1,7 @@
 // The lines of a table in chains, one for each inport, so that a series is held only against the lines of its own inport.
 // Assumes nothing.
+#![tactic(auto)]
+
 ghost use Rattle.std.specs.Prelude.{◌≡◌, ℕ, ◌<◌, length, get_or};
 ghost use Rattle.model.specs.Sizes.{lines_most, resources_most, word_end};
 ghost use Rattle.line_chains.specs.Chains.{port_at, Tabled, chains_size, lines_in, first_in, after_in, Chained};

@@ -1,4 +1,6 @@
 // The table check behind reading: the series by circuit, offset and hop, to the first that has a fault. Assumes nothing.
+#![tactic(auto)]
+
 ghost use Rattle.std.specs.Prelude.{◌≡◌, true, ◌<◌};
 ghost use Rattle.std.proofs.Math.Option.{none};
 ghost use Rattle.model.specs.Sizes.{cycle_most};

@@ -1,4 +1,6 @@
 // The table as a file: the lines that slots need, laid into an area with room. Assumes nothing.
+#![tactic(auto)]
+
 ghost use Rattle.std.specs.Prelude.{◌≡◌, ◌+◌, ◌≤◌, ◌<◌, length, get_or};
 ghost use Rattle.model.specs.Sizes.{cycle_most};
 ghost use Rattle.plan.specs.Plan.{InBounds, Usable};

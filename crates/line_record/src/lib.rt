@@ -1,4 +1,6 @@
 // One line of the table, laid into an area with room as the record of a send. Assumes nothing.
+#![tactic(auto)]
+
 ghost use Rattle.std.specs.Prelude.{◌≡◌, ◌+◌, ◌≤◌, ◌<◌, length};
 ghost use Rattle.model.specs.Sizes.{head_size, line_size, cycle_most};
 ghost use Rattle.plan.specs.Plan.{send_count, InBounds};

@@ -1,4 +1,6 @@
 // One series of packets held against the lines of its inport: which lines meet it, and what is wrong with it. Assumes nothing.
+#![tactic(auto)]
+
 ghost use Rattle.std.specs.Prelude.{◌≡◌, true, ◌%◌, ◌<◌};
 ghost use Rattle.model.specs.Sizes.{resources_most, cycle_most};
 ghost use Rattle.model.specs.Tests.{◌and◌};

@@ -1,4 +1,6 @@
 // The series of all offsets of a circuit at one hop, held against the lines of its inport in one walk. Assumes nothing.
+#![tactic(auto)]
+
 ghost use Rattle.std.specs.Prelude.{◌≡◌, true, ◌<◌, get_or};
 ghost use Rattle.model.specs.Sizes.{resources_most};
 ghost use Rattle.num_divisor.specs.Common.{Cycle};

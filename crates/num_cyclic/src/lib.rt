@@ -1,4 +1,6 @@
 // Numbers on a cycle: how far one is ahead of another. Assumes nothing.
+#![tactic(auto)]
+
 ghost use Rattle.std.specs.Prelude.{◌≡◌, ◌<◌};
 ghost use Rattle.num_divisor.specs.Common.{Cycle};
 ghost use Rattle.num_cyclic.specs.Ahead.{ahead};

@@ -1,4 +1,6 @@
 // The common divisor of two cycles, by Euclid's rule.
+#![tactic(auto)]
+
 ghost use Rattle.num_divisor.specs.Common.{Cycle, Common};
 
 pub fn common(a: usize, b: usize) -> usize

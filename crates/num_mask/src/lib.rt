@@ -1,5 +1,7 @@
 // Sets of offsets as the set bits of a number: to ask, to add, to count, and to take off one by one.
 // Assumes nothing.
+#![tactic(auto)]
+
 ghost use Rattle.std.specs.Prelude.{◌≡◌, ◌-◌, ◌^◌, ◌<◌, length};
 ghost use Rattle.model.specs.Sizes.{cycle_most};
 ghost use Rattle.num_mask.specs.Bits.{bit, offsets, Above, More, Marked, Lowest};

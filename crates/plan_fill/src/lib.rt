@@ -1,4 +1,6 @@
 // Puts the circuits of a request into a plan. Assumes nothing.
+#![tactic(auto)]
+
 ghost use Rattle.std.specs.Prelude.{◌≡◌, ◌+◌, ◌<◌, length};
 ghost use Rattle.model.specs.Sizes.{circuits_most};
 ghost use Rattle.model.specs.Reading.{request};

@@ -1,4 +1,6 @@
 // Files put into a plan and its masks, and how a file that has a fault is refused. Assumes nothing.
+#![tactic(auto)]
+
 ghost use Rattle.std.specs.Prelude.{◌≡◌, length};
 ghost use Rattle.model.specs.Sizes.{circuits_most};
 ghost use Rattle.plan.specs.Plan.{plan_size};

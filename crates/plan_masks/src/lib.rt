@@ -1,4 +1,6 @@
 // The offsets of an assignment file as masks, one for each circuit. Assumes nothing.
+#![tactic(auto)]
+
 ghost use Rattle.std.specs.Prelude.{◌≡◌, length};
 ghost use Rattle.model.specs.Sizes.{circuits_most};
 ghost use Rattle.plan_masks.specs.Masks.{Rising, MaskOf, Risings, MasksOf};

@@ -1,5 +1,7 @@
 // What a test found: nothing, or the answer that tells it. Every test answers one of these, as every test of the model answers an
 // `Option Answer`. Assumes nothing.
+#![tactic(auto)]
+
 ghost use Rattle.std.specs.Prelude.{◌≡◌};
 ghost use Rattle.model.specs.Tests.{or_else};
 ghost use Rattle.model.specs.declared.Answer.TheVariants.{Done};

@@ -1,4 +1,6 @@
 // Slots for the circuits of a plan, and how long their assignment will be. Assumes nothing.
+#![tactic(auto)]
+
 ghost use Rattle.std.specs.Prelude.{◌≡◌, [], length};
 ghost use Rattle.model.specs.Sizes.{circuits_most};
 ghost use Rattle.model.specs.Search.{search, reply};

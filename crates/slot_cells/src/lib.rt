@@ -1,5 +1,7 @@
 // What the search asks about the cells of a circuit: the offsets that earlier circuits bar, and the next cell where there is a choice.
 // Assumes nothing.
+#![tactic(auto)]
+
 ghost use Rattle.std.specs.Prelude.{◌≡◌, ℕ, ◌+◌, ◌≤◌, ◌<◌, map, length, take};
 ghost use Rattle.model.specs.Sizes.{circuits_most, cycle_most};
 ghost use Rattle.model.specs.Search.{barred};

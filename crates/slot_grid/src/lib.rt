@@ -1,5 +1,7 @@
 // The grid of clashes that the search asks: for two circuits and an offset of one, the offsets of the other that clash
 // with it. Assumes nothing.
+#![tactic(auto)]
+
 ghost use Rattle.std.specs.Prelude.{◌≡◌, ◌+◌, ◌<◌, ◌≤◌, length};
 ghost use Rattle.num_divisor.specs.Common.{Cycle};
 ghost use Rattle.plan.specs.Plan.{circuits_in, Usable};

@@ -1,5 +1,7 @@
 // The search for slots: cells in order, take before skip, with a budget of visits. The offsets that
 // a circuit has taken are the set bits of a mask. Assumes nothing.
+#![tactic(auto)]
+
 ghost use Rattle.std.specs.Prelude.{◌≤◌};
 ghost use Rattle.plan.specs.Plan.{circuits_in};
 ghost use Rattle.slot_search.specs.Code.{Ready, Inside, CircuitEnds, CellEnds};

@@ -1,4 +1,6 @@
 // The assignment as a file: the offsets of each circuit, laid into an area with room. Assumes nothing.
+#![tactic(auto)]
+
 ghost use Rattle.std.specs.Prelude.{◌+◌, ◌≤◌, length};
 ghost use Rattle.num_mask.specs.Bits.{offsets};
 ghost use Rattle.plan.specs.Plan.{Usable};

@@ -1,4 +1,6 @@
 // Answers and lines in words, written to standard output. Assumes what crate io assumes of the system's calls.
+#![tactic(auto)]
+
 ghost use Rattle.std.specs.Prelude.{◌≡◌, ◌+◌, ◌/◌, ◌≤◌, length};
 ghost use Rattle.model.specs.Sizes.{head_size, line_size};
 

@@ -1,5 +1,7 @@
 // The public calls. Each does all its own checking, so none has a `requires`, and each contract gives
 // one answer and one list of output bytes for every input. Assumes nothing.
+#![tactic(auto)]
+
 ghost use Rattle.std.specs.Prelude.{[]};
 ghost use Rattle.model.specs.Jobs.{Contract, read, allot, check, make, verify};
 

@@ -1,5 +1,7 @@
 // Runs the worked cases of document 01 that are not in the proved table, and writes the number and the four details of each answer.
 // Assumes what crate io assumes of the system's calls.
+#![tactic(auto)]
+
 use libc::STDOUT_FILENO;
 use model::Answer;
 
