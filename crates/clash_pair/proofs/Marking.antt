@@ -1,7 +1,7 @@
 -- The uses of a plan one by one: which differences a loop over them has marked, and which uses it has passed. Assumes nothing.
 use Prim.Native.Nat.{ℕ, zero, suc, ◌+◌, ◌<◌}
 use mathlib.Core.Path.{◌≡◌, refl, sym, ap, ◌∙◌}
-use mathlib.Core.Bool.{Bool, false, ◌||◌, or_assoc, or_false}
+use mathlib.Core.Bool.{Bool, false, ◌||◌, or_assoc, or-false}
 use mathlib.Core.List.{List}
 use native.Mathlib.Numerals.{add-one}
 use borrow.Author.Tests.{eq-eqb, ne_eqb}
@@ -28,7 +28,7 @@ module _ {A : Type 0} (p : A → Bool) where
   any_more n f = ap (λ k. any p (up_to k f)) (add-one n) ∙ go n f
     where
       go : (n : ℕ) (f : ℕ → A) → any p (up_to (suc n) f) ≡ (any p (up_to n f) || p (f n))
-      go zero f = or_false (p (f 0))
+      go zero f = or-false (p (f 0))
       go (suc n) f = ap (λ b. p (f 0) || b) (go n (λ i. f (suc i))) ∙ sym (or_assoc (p (f 0)) (any p (up_to n (λ i. f (suc i)))) (p (f (suc n))))
 
 -- ---- which differences are marked
@@ -57,7 +57,7 @@ module _ (p : List ℕ) (c k e g from : ℕ) where
 
   pub uses-none : MarksUse p u e 0 g from from
   unfolding meets_any any up_to
-  uses-none = record { marks = record { bits = λ d h. sym (or_false (bit from d)) } }
+  uses-none = record { marks = record { bits = λ d h. sym (or-false (bit from d)) } }
 
   pub uses_all : (i count acc : ℕ) → MarksUse p u e i g from acc → i ≡ count → MarksUse p u e count g from acc
   uses_all i count acc m e = rw (← e) m
@@ -70,7 +70,7 @@ module _ (p : List ℕ) (c k e g from : ℕ) where
     -- a use of another resource
     pub uses_other : (w ≡ what → ⊥) → MarksUse p u e (i + 1) g from acc
     unfolding use_in
-    uses_other ne = record { marks = marks_none _ done.marks (λ d h. met d (meet_other g d u (use_in p e i) (λ x. ne (is-w ∙ x ∙ sym is-what))) ∙ or_false _) }
+    uses_other ne = record { marks = marks_none _ done.marks (λ d h. met d (meet_other g d u (use_in p e i) (λ x. ne (is-w ∙ x ∙ sym is-what))) ∙ or-false _) }
 
     -- a use of the same
     pub uses_same : {after x d r : ℕ} → after ≡ after_in p c k → x ≡ after_in p e i → d ≡ ahead g x after → w ≡ what → Marked acc d r → MarksUse p u e (i + 1) g from r
@@ -88,7 +88,7 @@ pub record MarksAll (p : List ℕ) (c g : ℕ) (l : List Use) (k acc : ℕ) : Ty
 module _ {p : List ℕ} {c g : ℕ} {l : List Use} where
   pub all_none : MarksAll p c g l 0 0
   unfolding any_meets any up_to
-  all_none = record { marks = record { bits = λ d h. sym (or_false (bit 0 d)) } }
+  all_none = record { marks = record { bits = λ d h. sym (or-false (bit 0 d)) } }
 
   pub all_more : {k acc r : ℕ} → MarksAll p c g l k acc → Marks acc r g (meets_any g (use_in p c k) l) → MarksAll p c g l (k + 1) r
   unfolding any_meets
