@@ -1,7 +1,7 @@
 -- The grid of clashes: what loops over offsets, entries and pairs have filled in. Assumes nothing.
 use Prim.Native.Nat.{ℕ, ◌+◌, ◌≤◌, ◌<◌}
 use mathlib.Core.Path.{◌≡◌, refl, sym, ap, ◌∙◌}
-use mathlib.Core.Bool.{true, false, ◌||◌, or_false}
+use mathlib.Core.Bool.{true, false, ◌||◌, or-false}
 use mathlib.Core.List.{List, []}
 use native.Mathlib.Omega.{arith}
 use native.Mathlib.Decide.{dec_lt}
@@ -47,7 +47,7 @@ module _ {bad g b : ℕ} where
       where
         pick : (a : ℕ) → a < k + 1 → Dec (a < k) → bit r a ≡ bit bad (ahead g a b)
         pick a h (yes l) =
-            m.bits a ∙ ap (λ z. bit acc a || z) (ne_eqb a k (λ e. omega arith)) ∙ or_false (bit acc a) ∙ done.settled a l
+            m.bits a ∙ ap (λ z. bit acc a || z) (ne_eqb a k (λ e. omega arith)) ∙ or-false (bit acc a) ∙ done.settled a l
         pick a h (no l) =
             let s : a ≡ k = omega arith in
             rw s (marked_new m ∙ sym (rw e at f))
