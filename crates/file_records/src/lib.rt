@@ -13,7 +13,7 @@ use model::{
 };
 
 // How the reading of a file ends: it is whole, or it has a fault, which names a byte.
-#[derive(Drop)]
+#[derive(Clone, Copy)]
 pub enum Ending {
     Whole,
     Stopped(Fault, usize),

@@ -1,7 +1,7 @@
 -- Laws behind `all_served`: what one walk over the lines of a port says of all offsets of a mask. Assumes nothing.
 use Prim.Native.Nat.{ℕ, suc, ◌+◌, ◌-◌, ◌%◌, ◌^◌, ◌≤◌, ◌<◌}
 use mathlib.Core.Path.{◌≡◌, refl, sym, ap, ◌∙◌}
-use mathlib.Core.Bool.{Bool, true, false, not, ◌||◌, or_false}
+use mathlib.Core.Bool.{Bool, true, false, not, ◌||◌, or-false}
 use mathlib.Core.Logic.{◌⊎◌, inl, inr}
 use mathlib.Core.List.Memᴰ
 use mathlib.Core.List.{List}
@@ -162,7 +162,7 @@ module _ (t : List ℕ) (lines port cycle after out mask : ℕ) where
         }
           where
             bits : (b : ℕ) → (b ≡ a → ⊥) → bit met' b ≡ bit met b
-            bits b ne = marked.bits b ∙ ap (λ z. bit met b || z) (ne_eqb b a ne) ∙ or_false (bit met b)
+            bits b ne = marked.bits b ∙ ap (λ z. bit met b || z) (ne_eqb b a ne) ∙ or-false (bit met b)
 
             old : (b : ℕ) → bit met' b ≡ false → bit met b ≡ false
             old b u = go (bit met b) refl

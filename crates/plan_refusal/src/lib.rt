@@ -9,7 +9,7 @@ ghost use Rattle.plan_refusal.specs.Found.{found, nothing};
 
 use model::Answer;
 
-#[derive(Drop)]
+#[derive(Clone, Copy)]
 pub enum Refusal {
     Nothing,
     Told(Answer),

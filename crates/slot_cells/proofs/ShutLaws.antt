@@ -1,6 +1,6 @@
 -- What the earlier circuits shut, one circuit at a time. Assumes nothing.
 use mathlib.Core.Path.{◌≡◌, refl, sym, ap, ◌∙◌}
-use mathlib.Core.Bool.{Bool, false, ◌||◌, or_assoc, or_false}
+use mathlib.Core.Bool.{Bool, false, ◌||◌, or_assoc, or-false}
 use mathlib.Core.List.{List, [], ◌∷◌, map}
 use Prim.Native.Nat.{ℕ, suc, ◌+◌, ◌≤◌, ◌<◌}
 use native.Mathlib.Numerals.{add-one}
@@ -17,7 +17,7 @@ use Rattle.slot_cells.specs.Cells.{gathered}
 
 gathered-bit : (grid : List ℕ) (base x i : ℕ) (l : List ℕ) → bit (gathered grid base x l) i ≡ (bit x i || any (λ a. bit (get_or grid (base + a) 0) i) l)
 unfolding gathered any
-gathered-bit grid base x i [] = sym (or_false (bit x i))
+gathered-bit grid base x i [] = sym (or-false (bit x i))
 gathered-bit grid base x i (a ∷ more) =
     gathered-bit grid base (bit_or x (get_or grid (base + a) 0)) i more
     ∙ ap (λ (b : Bool). b || any (λ a. bit (get_or grid (base + a) 0) i) more) (bit-or x (get_or grid (base + a) 0) i)

@@ -1,6 +1,6 @@
 -- `slot_cells::blocked` meets its contract: what is joined so far, and what the circuits from e on shut, is the whole. Assumes nothing.
 use mathlib.Core.Path.{◌≡◌, sym, ap, ◌∙◌}
-use mathlib.Core.Bool.{Bool, ◌||◌, or_false}
+use mathlib.Core.Bool.{Bool, ◌||◌, or-false}
 use mathlib.Core.List.{List, map}
 use Prim.Native.Nat.{ℕ, ◌≤◌, ◌+◌, ◌-◌}
 use native.Mathlib.Omega.{arith}
@@ -68,7 +68,7 @@ returns : tie.Need-returns invariant-loop decreases-loop
 returns c i =
     let x = c.before.before.before.args in
     let acc = c.before.loop.acc in
-    sym (or_false (bit acc i))
+    sym (or-false (bit acc i))
     ∙ ap (λ (b : Bool). bit acc i || b) (sym (shut_done x.grid.now x.taken.now x.c c.before.loop.e i (omega arith)))
     ∙ c.before.loop.invariant.1 i
 
