@@ -23,6 +23,10 @@ gathered-bit grid base x i (a ∷ more) =
     ∙ ap (λ (b : Bool). b || any (λ a. bit (get_or grid (base + a) 0) i) more) (bit-or x (get_or grid (base + a) 0) i)
     ∙ or_assoc (bit x i) (bit (get_or grid (base + a) 0) i) (any (λ a. bit (get_or grid (base + a) 0) i) more)
 
+-- what the circuits from e on shut
+abbrev pub still : (grid taken : List ℕ) (c e i : ℕ) → Bool
+still grid taken c e i = barred (clash_in grid) c i e (map offsets (drop e (take c taken)))
+
 -- the share of circuit e goes over to what is joined already
 pub shut_step : (grid taken : List ℕ) (c e i acc : ℕ) → e < c → c ≤ length taken
     → (bit (gathered grid (pair_at c e) acc (offsets (get_or taken e 0))) i || barred (clash_in grid) c i (e + 1) (map offsets (drop (e + 1) (take c taken))))
