@@ -1,9 +1,10 @@
 // Runs the worked cases of document 01 that are not in the proved table, and writes the number and the four details of each answer.
-// Assumes what crate io assumes of the system's calls.
+// A write that fails ends it with an error. Assumes what std assumes of the system's calls.
 #![tactic(auto)]
 
-use libc::STDOUT_FILENO;
 use model::Answer;
+use std::io;
+use std::io::Write;
 
 // One buffer, and one circuit over it: D at byte 14.
 const ONE_BUFFER: [u8; 24] = *b"\x06\x00\x01\x00\x02\x00\x01\x00\x00\x01\
@@ -45,40 +46,41 @@ const OFFSETS_0_2: [u8; 10] = *b"\x02\x00\x03\x00\x00\x02\
 const SINGLE_LINE: [u8; 16] = *b"\x08\x00\x04\x00\x00\x02\x00\x00\xff\xff\x00\x00\
     \x00\x00\x05\x00";
 
-fn main() {
+fn main(rt: HostRuntime) -> io::Result<()> {
+    let mut out = io::writer(&rt);
     show(
+        &mut out,
         b"one line serves both offsets",
         vaskunoor::check_tables(&TWO_SLOTS, &OFFSETS_0_2, &SINGLE_LINE),
-    );
-    show_no_circuits();
-    show(b"an empty request", vaskunoor::read_request(b""));
-    show(b"D 32", vaskunoor::read_request(&one_circuit(32)));
-    show(b"D 33", vaskunoor::read_request(&one_circuit(33)));
-    show(b"H 16", vaskunoor::read_request(&SIXTEEN_HOPS));
-    show(b"H 17", vaskunoor::read_request(&SEVENTEEN_HOPS));
+    )?;
+    show_no_circuits(&mut out)?;
+    show(&mut out, b"an empty request", vaskunoor::read_request(b""))?;
+    show(&mut out, b"D 32", vaskunoor::read_request(&one_circuit(32)))?;
+    show(&mut out, b"D 33", vaskunoor::read_request(&one_circuit(33)))?;
+    show(&mut out, b"H 16", vaskunoor::read_request(&SIXTEEN_HOPS))?;
+    show(&mut out, b"H 17", vaskunoor::read_request(&SEVENTEEN_HOPS))
 }
 
 // Allocates where nothing is to be done, in an area that is one byte longer than the end record, and writes the area.
-fn show_no_circuits() {
+fn show_no_circuits<W: Write>(out: &mut W) -> io::Result<()> {
     let mut area = [0xeeu8; 5];
     let answer = vaskunoor::allocate(&NO_CIRCUITS, 0, &mut area);
-    show(b"no circuits", answer);
-    show_area(&area);
+    show(out, b"no circuits", answer)?;
+    show_area(out, &area)
 }
 
-fn show_area(area: &[u8; 5]) {
-    io::write_all(STDOUT_FILENO, b"  area");
-    show_byte(area[0]);
-    show_byte(area[1]);
-    show_byte(area[2]);
-    show_byte(area[3]);
-    show_byte(area[4]);
-    io::write_all(STDOUT_FILENO, b"\n");
+fn show_area<W: Write>(out: &mut W, area: &[u8; 5]) -> io::Result<()> {
+    out.write_all(b"  area")?;
+    show_byte(out, area[0])?;
+    show_byte(out, area[1])?;
+    show_byte(out, area[2])?;
+    show_byte(out, area[3])?;
+    show_byte(out, area[4])?;
+    out.write_all(b"\n")
 }
 
-fn show_byte(byte: u8) {
-    io::write_all(STDOUT_FILENO, b" ");
-    io::print_hex(STDOUT_FILENO, byte as u64, 2);
+fn show_byte<W: Write>(out: &mut W, byte: u8) -> io::Result<()> {
+    write!(out, " {byte:02x}")
 }
 
 // The request with one buffer and one circuit of this cycle.
@@ -89,19 +91,18 @@ fn one_circuit(cycle: u8) -> [u8; 24] {
 }
 
 // Writes the name of a case and what was answered.
-fn show(name: &[u8], answer: Answer) {
+fn show<W: Write>(out: &mut W, name: &[u8], answer: Answer) -> io::Result<()> {
     let told = call_answer::hand_out(answer);
-    io::write_all(STDOUT_FILENO, name);
-    io::write_all(STDOUT_FILENO, b":");
-    show_number(told.number);
-    show_number(told.first);
-    show_number(told.second);
-    show_number(told.third);
-    show_number(told.fourth);
-    io::write_all(STDOUT_FILENO, b"\n");
+    out.write_all(name)?;
+    out.write_all(b":")?;
+    show_number(out, told.number)?;
+    show_number(out, told.first)?;
+    show_number(out, told.second)?;
+    show_number(out, told.third)?;
+    show_number(out, told.fourth)?;
+    out.write_all(b"\n")
 }
 
-fn show_number(number: u32) {
-    io::write_all(STDOUT_FILENO, b" ");
-    io::print_decimal(STDOUT_FILENO, number as u64);
+fn show_number<W: Write>(out: &mut W, number: u32) -> io::Result<()> {
+    write!(out, " {number}")
 }
