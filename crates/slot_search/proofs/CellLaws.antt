@@ -1,7 +1,7 @@
 -- A skip that is allowed or not, the end of a circuit's cells, and a problem that stays ready. Assumes nothing.
 use mathlib.Core.Path.{◌≡◌, sym, ap, ◌∙◌}
 use mathlib.Core.Bool.{Bool, true, false}
-use mathlib.Core.List.{List, [], ◌∷◌, ◌++◌, map, map_append}
+use mathlib.Core.List.{List, [], ◌∷◌, ◌++◌, map, map-append}
 use Prim.Native.Nat.{ℕ, ◌+◌, ◌-◌, ◌^◌, ◌≤◌, ◌<◌}
 use native.Mathlib.Numerals.{add-one}
 use native.Mathlib.Omega.{arith}
@@ -51,7 +51,7 @@ pub ends_circuit : (grid p : List ℕ) (c shut a mask l : ℕ) (old new : List �
 ends_circuit grid p c shut a mask l old new r e listed room h =
     let stored : take (c + 1) (set old c mask) ≡ take c old ++ (mask ∷ []) = rw add-one (take-suc-set old c mask (omega arith)) in
     let masks : map offsets (take (c + 1) (set old c mask)) ≡ map offsets (take c old) ++ (offsets mask ∷ []) =
-    ap (map offsets) stored ∙ map_append offsets (take c old) (mask ∷ []) in
+    ap (map offsets) stored ∙ map-append offsets (take c old) (mask ∷ []) in
     let end = cell_end grid p c (map offsets (take c old)) shut (cycle_in p c) a (offsets mask) e in
     let g = ends_same (ap (from_circuit grid p (c + 1)) masks ∙ sym end) h in
     record {

@@ -6,8 +6,6 @@ use Prim.Native.Nat.{ℕ, ◌+◌, ◌-◌, ◌≤◌, ◌<◌}
 use native.Mathlib.Nat.{sub-zero}
 use native.Mathlib.Omega.{arith}
 use lib.ListN.{take}
-use types.Run.{OneOf, miss}
-use denote.Enum.Declared.{tag_of}
 use lib.Dec.{leb, leb-zero}
 use borrow.Author.Tests.{le-leb, lt-leb, leb-true, leb-false}
 use Rattle.model.specs.Search.{Walk, found, no_room, later, choice, then_try}
@@ -15,7 +13,6 @@ use Rattle.num_mask.specs.Bits.{offsets}
 use Rattle.slot_search.specs.Code.{cut, assigned, WalkEnds}
 use Rattle.slot_search.specs.declared.Outcome.{Outcome}
 use Rattle.slot_search.specs.declared.Outcome.TheVariants.{Found, NoRoom, Over}
-use Rattle.slot_search.specs.contracts.Outcome.{the_type}
 
 -- ---- a walk with n visits in front
 
@@ -106,12 +103,12 @@ module _ {n c : ℕ} {old : List ℕ} where
   pub ends_over : {w : Walk} {l : ℕ} {new : List ℕ} (w' : Walk) → WalkEnds w n c l old new Over → WalkEnds (then_try w w') n c l old new Over
   ends_over {w} {l} w' h = record { answer = sym (first-over l w w' h.answer); kept = h.kept; holds = λ k e. cc }
 
-  -- the first came to an answer or the budget is spent, as r's tag has it
-  pub ends_answered : {w : Walk} {l : ℕ} {new : List ℕ} (w' : Walk) (r : Outcome) → OneOf (0 ∷ 2 ∷ []) (tag_of the_type r)
+  -- the first came to an answer or the budget is spent
+  pub ends_answered : {w : Walk} {l : ℕ} {new : List ℕ} (w' : Walk) (r : Outcome) → ((k : ℕ) → r ≡ NoRoom k → ⊥)
       → WalkEnds w n c l old new r → WalkEnds (then_try w w') n c l old new r
-  ends_answered w' (Found k) tag h = ends_first w' h
-  ends_answered w' (NoRoom k) tag h = absurd (miss (0 ∷ 2 ∷ []) 1 tt tag)
-  ends_answered w' Over tag h = ends_over w' h
+  ends_answered w' (Found k) other h = ends_first w' h
+  ends_answered w' (NoRoom k) other h = absurd (other k refl)
+  ends_answered w' Over other h = ends_over w' h
 
   pub ends_second : {w w' : Walk} {l k : ℕ} {mid new : List ℕ} {r : Outcome}
       → WalkEnds w n c l old mid (NoRoom k) → WalkEnds w' n c k mid new r → WalkEnds (then_try w w') n c l old new r

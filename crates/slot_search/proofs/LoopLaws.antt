@@ -12,8 +12,6 @@ use lib.Pow.{pow_mono}
 use lib.Dec.{ltb}
 use lib.Count.{ones}
 use lib.Bits.{bit_or}
-use types.Run.{OneOf}
-use denote.Enum.Declared.{tag_of}
 use borrow.Author.Tests.{lt-ltb, le-ltb, eq-eqb, ne_eqb, eqb-true}
 use Rattle.model.specs.Sizes.{cycle_most}
 use Rattle.model.specs.Tests.{◌and◌, neg}
@@ -25,7 +23,6 @@ use Rattle.slot_cells.specs.Cells.{SkippedTo}
 use Rattle.slot_search.specs.Code.{Inside, from_cell, WalkEnds, CircuitEnds, CellEnds}
 use Rattle.slot_search.specs.declared.Outcome.{Outcome}
 use Rattle.slot_search.specs.declared.Outcome.TheVariants.{NoRoom, Over}
-use Rattle.slot_search.specs.contracts.Outcome.{the_type}
 use Rattle.slot_search.proofs.WalkLaws.{from_take, from_skip, cell_split}
 use Rattle.slot_search.proofs.EndsLaws.{ends_same, ends_visit, ends_broke, ends_shut, ends_answered, ends_over, ends_second}
 use Rattle.slot_search.proofs.CellLaws.{skip_no, skip_yes, ends_circuit}
@@ -159,9 +156,9 @@ module _ {grid p : List ℕ} {c from mask shut budget : ℕ} {old now : List ℕ
     split = cell_split grid p c before shut D a (offsets mask) inside
 
     -- the code's call came to an answer, or the budget is spent
-    pub out_answered : ones mask < N → shut / 2 ^ a % 2 ≡ 0 → (left ≡ 0 → ⊥) → {mid : List ℕ} {r : Outcome} → OneOf (0 ∷ 2 ∷ []) (tag_of the_type r)
+    pub out_answered : ones mask < N → shut / 2 ^ a % 2 ≡ 0 → (left ≡ 0 → ⊥) → {mid : List ℕ} {r : Outcome} → ((k : ℕ) → r ≡ NoRoom k → ⊥)
         → Called mid r → Whole mid r
-    out_answered l h z {mid} {r} tag g = t.goes_on mid r (ends_same (sym split) (ends_answered (skipping now) r tag (tried_by inside l h z refl g)))
+    out_answered l h z {mid} {r} other g = t.goes_on mid r (ends_same (sym split) (ends_answered (skipping now) r other (tried_by inside l h z refl g)))
 
     pub out_spent : ones mask < N → shut / 2 ^ a % 2 ≡ 0 → left ≡ 0 → Whole now Over
     out_spent l h z = t.goes_on now Over (ends_same (sym split) (ends_over (skipping now) (ends_same (sym (take_open l h)) (ends_broke on left z))))
