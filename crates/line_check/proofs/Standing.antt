@@ -1,11 +1,11 @@
 -- What the check over rows and bytes says of the request and its offsets: a line meets a series where their ports are one and some slot matches.
 -- And what callers know of rows and lines that were read. Assumes nothing.
-use Prim.Native.Nat.{ℕ, zero, suc, ◌-◌, ◌%◌, ◌≤◌, ◌<◌}
+use Prim.Native.Nat.{ℕ, zero, suc, ◌%◌, ◌≤◌, ◌<◌}
 use mathlib.Core.Path.{◌≡◌, refl, sym, ap, ap₂, ◌∙◌}
 use mathlib.Core.Logic.{◌⊎◌, inl, inr}
 use mathlib.Core.Bool.{Bool, true, false}
 use mathlib.Core.List.{List, [], ◌∷◌}
-use mathlib.Core.Option.{Option, none, some}
+use mathlib.Core.Option.{Option, none}
 use native.Mathlib.Omega.{arith}
 use borrow.Author.Tests.{eq-eqb, ne_eqb, ltb-true}
 use lib.Dec.{eqb, eqb→eq, ltb}
@@ -13,7 +13,7 @@ use lib.ListN.{length, get_or}
 use Rattle.model.specs.Sizes.{buffers_most, resources_most, local, inport_of, table_file}
 use Rattle.model.specs.Divisor.{gcd}
 use Rattle.model.specs.Tests.{◌and◌, neg, least, given, ◌else◌, first}
-use Rattle.model.specs.Network.{Network, Request, Circuit, Send, send, circuit_of, hops, hop, inport, to_router, after}
+use Rattle.model.specs.Network.{Network, Request, Circuit, Send, send, circuit_of, hops, hop, inport, to_router}
 use Rattle.model.specs.Holding.{offsets_of}
 use Rattle.model.specs.Lines.{Line, Series, line_of, meets?, serves?, series, offset_of, one_line, part_line, two_line, series_fault, lines_fault}
 use Rattle.model.specs.Reading.{table_walk, table}

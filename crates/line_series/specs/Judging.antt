@@ -1,6 +1,6 @@
 -- The lines that meet a series, over the bytes of a table file: which they are, and what is told of the series. Assumes nothing: these are definitions.
 use Rattle.std.specs.Prelude.{ℕ, ◌+◌, ◌%◌, ◌<◌, Bool, cond, List, ltb, eqb}
-use Rattle.std.proofs.Math.Option.{Option, none}
+use Rattle.std.proofs.Math.Option.{Option}
 use Rattle.model.specs.Sizes.{lines_most}
 use Rattle.model.specs.Divisor.{gcd}
 use Rattle.model.specs.Tests.{◌and◌, neg, least, given, ◌else◌}

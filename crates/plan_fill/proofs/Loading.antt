@@ -10,7 +10,7 @@ use lib.ListN.{length, get_or, set, length-set}
 use lib.Seq.{get_or-set_same}
 use Rattle.model.specs.Sizes.{inport_of, hops_most, circuits_most, word_end}
 use Rattle.model.specs.Tests.{up_to}
-use Rattle.model.specs.Network.{Request, Circuit, Use, Send, uses, hop_use, send, inport, after, hops, hop, circuit_of, from_router}
+use Rattle.model.specs.Network.{Request, Circuit, Use, Send, uses, hop_use, send, inport, after, hops, circuit_of, from_router}
 use Rattle.model.specs.Reading.{request}
 use Rattle.model.proofs.Tests.{length-up_to, up_to_same}
 use Rattle.model.specs.Sound.{SoundRequest}

@@ -10,7 +10,7 @@ use lib.ListN.{get_or}
 use Rattle.model.specs.Sizes.{request_file, assignment_file}
 use Rattle.model.specs.Tests.{◌else◌}
 use Rattle.model.specs.Network.{Request}
-use Rattle.model.specs.Reading.{Walked, request_walk, request, assignment_walk, assignment}
+use Rattle.model.specs.Reading.{Walked, request_walk, request, assignment_walk}
 use Rattle.model.specs.Jobs.{request_fault, assignment_fault}
 use Rattle.model.proofs.Readers.{request_sound, request_byte_fits, assignment_byte_fits}
 use Rattle.file_records.specs.Fields.{ending_of, places_of}

@@ -1,5 +1,4 @@
 -- `clash_first::first_clash` meets its contract. The loops' invariants: nothing is found yet, and what was passed is clear. Assumes nothing.
-use Prim.Native.Nat.{◌-◌}
 use mathlib.Core.Path.{refl}
 use Rattle.clash_first.proofs.First.{whats_none, whats_more, slots_none, slots_more, plan_skip, plan_all, higher_none, higher_more, lower_none, lower_more, nowhere, somewhere}
 use native.Mathlib.Omega.{arith}

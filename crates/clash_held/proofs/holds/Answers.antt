@@ -1,5 +1,4 @@
 -- `clash_held::holds` meets its contract. The loop's invariant: none of the uses passed holds. Assumes nothing.
-use Prim.Native.Nat.{◌-◌}
 use mathlib.Core.Path.{sym, ◌∙◌}
 use Rattle.clash_held.proofs.Held.{held_none, held_other, held_miss, holds_true, holds_false}
 use native.Mathlib.Omega.{arith}

@@ -1,5 +1,4 @@
 -- `clash_pair::bad_differences` meets its contract. The loop's invariant: the differences of the uses passed are marked. Assumes nothing.
-use Prim.Native.Nat.{◌-◌}
 use Rattle.plan.specs.Plan.{circuit_in}
 use Rattle.clash_pair.proofs.Marking.{all_none, all_more, all_done}
 use native.Mathlib.Omega.{arith}

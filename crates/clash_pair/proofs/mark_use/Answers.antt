@@ -1,5 +1,4 @@
 -- `clash_pair::mark_use` meets its contract. The loop's invariant: the differences of the uses passed are marked. Assumes nothing.
-use Prim.Native.Nat.{◌-◌}
 use Rattle.clash_pair.proofs.Marking.{uses-none, uses_other, uses_same, uses_all}
 use native.Mathlib.Omega.{arith}
 use Rattle.clash_pair.proofs.mark_use.Goals as goal

@@ -1,5 +1,4 @@
 -- `clash_sets::apart` meets its contract. The loop's invariant: the words passed have no common bit. Assumes nothing.
-use Prim.Native.Nat.{◌-◌}
 use Rattle.model.proofs.Tests.{eq→T}
 use Rattle.clash_sets.proofs.Sets.{apart_none, apart_more, apart_all}
 use native.Mathlib.Omega.{arith}

@@ -1,5 +1,4 @@
 -- `clash_sets::collect` meets its contract. The loop's invariant: the uses passed are in the set. Assumes nothing.
-use Prim.Native.Nat.{◌-◌}
 use Rattle.clash_sets.proofs.Sets.{grown_none, grown_more, collected_none, collected_more, collected_all}
 use native.Mathlib.Omega.{arith}
 use Rattle.clash_sets.proofs.collect.Goals as goal

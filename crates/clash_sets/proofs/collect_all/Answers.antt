@@ -1,5 +1,4 @@
 -- `clash_sets::collect_all` meets its contract. The loop's invariant: the sets of the circuits passed are whole. Assumes nothing.
-use Prim.Native.Nat.{◌-◌}
 use Rattle.clash_sets.proofs.Sets.{grown_none, grown_more, sets-none, sets_more, sets_all}
 use native.Mathlib.Omega.{arith}
 use Rattle.clash_sets.proofs.collect_all.Goals as goal

@@ -1,5 +1,4 @@
 -- `file_assignment::first_bad_offset` meets its contract: no offset before i is bad. Assumes nothing.
-use Prim.Native.Nat.{◌-◌}
 use native.Mathlib.Omega.{arith}
 use Rattle.file_records.proofs.Firsts.{none_yet, found_here, none_here, found_none}
 use Rattle.file_assignment.proofs.first_bad_offset.Goals as goal

@@ -1,5 +1,4 @@
 -- `file_assignment::read` meets its contract. The loop is the walk, turn by turn. Assumes nothing.
-use Prim.Native.Nat.{◌-◌}
 use Rattle.model.specs.Reading.{assignment_walk}
 use Rattle.file_records.proofs.Walking.{keeping_start, keeping_on, room_here, slot_here, count_here, less_here, kept_whole, kept_refused}
 use Rattle.file_assignment.proofs.Walking.{bounded}

@@ -1,5 +1,4 @@
 -- `file_circuit::first_bad_hop` meets its contract: no hop before j is bad. Assumes nothing.
-use Prim.Native.Nat.{◌-◌}
 use native.Mathlib.Omega.{arith}
 use Rattle.file_records.proofs.Firsts.{none_yet, found_here, none_here, found_none}
 use Rattle.file_circuit.proofs.first_bad_hop.Goals as goal

@@ -1,5 +1,4 @@
 -- `file_circuit::first_broken` meets its contract: no hop before j breaks the path. Assumes nothing.
-use Prim.Native.Nat.{◌-◌}
 use native.Mathlib.Omega.{arith}
 use Rattle.file_records.proofs.Firsts.{none_yet, found_here, none_here, found_none}
 use Rattle.file_circuit.proofs.first_broken.Goals as goal

@@ -1,5 +1,4 @@
 -- `file_circuit::first_same_hop` meets its contract: no hop before i has the buffer of hop j. Assumes nothing.
-use Prim.Native.Nat.{◌-◌}
 use native.Mathlib.Omega.{arith}
 use Rattle.file_records.proofs.Firsts.{none_yet, found_here, none_here, found_none}
 use Rattle.file_circuit.proofs.first_same_hop.Goals as goal

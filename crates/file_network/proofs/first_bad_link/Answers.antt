@@ -1,5 +1,4 @@
 -- `file_network::first_bad_link` meets its contract: no buffer before b is bad. Assumes nothing.
-use Prim.Native.Nat.{◌-◌}
 use native.Mathlib.Omega.{arith}
 use Rattle.file_records.proofs.Firsts.{none_yet, found_here, none_here, found_none}
 use Rattle.file_network.proofs.first_bad_link.Goals as goal

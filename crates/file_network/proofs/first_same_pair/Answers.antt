@@ -1,5 +1,4 @@
 -- `file_network::first_same_pair` meets its contract: no buffer before a has the pair of b. Assumes nothing.
-use Prim.Native.Nat.{◌-◌}
 use native.Mathlib.Omega.{arith}
 use Rattle.file_records.proofs.Firsts.{none_yet, found_here, none_here, found_none}
 use Rattle.file_network.proofs.first_same_pair.Goals as goal

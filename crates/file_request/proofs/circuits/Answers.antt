@@ -1,5 +1,4 @@
 -- `file_request::circuits` meets its contract. The loop is the walk, turn by turn. Assumes nothing.
-use Prim.Native.Nat.{◌-◌}
 use Rattle.file_records.proofs.Walking.{keeping_start, keeping_on, room_here, slot_here, count_here, less_here, kept_whole, kept_refused}
 use Rattle.file_request.proofs.Walking.{bounded}
 use Rattle.file_request.proofs.circuits.Goals as goal

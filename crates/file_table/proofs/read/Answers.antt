@@ -1,5 +1,4 @@
 -- `file_table::read` meets its contract. The loop is the walk, turn by turn. Assumes nothing.
-use Prim.Native.Nat.{◌-◌}
 use native.Mathlib.Omega.{arith}
 use Rattle.file_records.proofs.Walking.{going_start, going_on, count_here, less_here}
 use Rattle.file_table.proofs.Walking.{bounded, end_here, refused_here}

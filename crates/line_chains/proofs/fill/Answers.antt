@@ -1,5 +1,4 @@
 -- `line_chains::fill` meets its contract: the entries before i are x. Assumes nothing.
-use Prim.Native.Nat.{◌-◌}
 use native.Mathlib.Omega.{arith}
 use borrow.Author.Rules.{rules}
 use Rattle.line_chains.proofs.Linking.{fill_none, fill_more, fill_all}

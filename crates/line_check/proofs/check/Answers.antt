@@ -1,5 +1,4 @@
 -- `line_check::check` meets its contract. The loop's invariant: the circuits before c have no fault. Assumes nothing.
-use Prim.Native.Nat.{◌-◌}
 use mathlib.Core.Path.{◌∙◌}
 use Rattle.plan_refusal.proofs.Firsts.{clear_none, clear_more, clear_found, clear_all}
 use Rattle.line_check.proofs.Standing.{faults_are}

@@ -1,5 +1,4 @@
 -- `line_check::check_offset` meets its contract. The loop's invariant: the hops before j have no fault. Assumes nothing.
-use Prim.Native.Nat.{◌-◌}
 use Rattle.plan_refusal.proofs.Firsts.{clear_none, clear_more, clear_found, clear_all}
 use Rattle.line_check.specs.Checks.{offset_fault}
 use native.Mathlib.Omega.{arith}

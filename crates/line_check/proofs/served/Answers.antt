@@ -1,5 +1,4 @@
 -- `line_check::served` meets its contract. The loop's invariant: at the hops before k no series of the offsets has a fault. Assumes nothing.
-use Prim.Native.Nat.{◌-◌}
 use borrow.Author.Tests.{not-false}
 use Rattle.model.proofs.Tests.{eq→T}
 use Rattle.line_check.proofs.Firsts.{served_none, served_more, served_all}

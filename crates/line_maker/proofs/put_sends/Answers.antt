@@ -1,5 +1,4 @@
 -- `line_maker::put_sends` meets its contract. Each turn lays in one line. Assumes nothing.
-use Prim.Native.Nat.{◌-◌}
 use Rattle.file_writer.proofs.Rest.{rest_start, part_room, part_more, part_end}
 use Rattle.line_record.proofs.Record.{send-length}
 use Rattle.line_maker.specs.Files.{offset_bytes}

@@ -1,5 +1,4 @@
 -- `line_maker::table_size` meets its contract. The loop sums over the circuits so far, and the sum stays small. Assumes nothing.
-use Prim.Native.Nat.{◌-◌}
 use mathlib.Core.Path.{refl}
 use Rattle.model.specs.Tests.{up_to, sum}
 use Rattle.line_maker.proofs.Sizes.{circuit_few, total_more, total_end}

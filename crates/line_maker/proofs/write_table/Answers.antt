@@ -1,5 +1,4 @@
 -- `line_maker::write_table` meets its contract. Each turn lays in the lines of one circuit, and the end record comes last. Assumes nothing.
-use Prim.Native.Nat.{◌-◌}
 use Rattle.file_writer.proofs.Rest.{rest_start, part_room, part_more}
 use Rattle.file_writer.proofs.Files.{end_room, end_laid}
 use Rattle.line_maker.proofs.Sizes.{table-length}

@@ -1,5 +1,4 @@
 -- `line_series::meeting` meets its contract. The loop's invariant: what was seen of the lines before m. Assumes nothing.
-use Prim.Native.Nat.{◌-◌}
 use mathlib.Core.Path.{refl}
 use Rattle.line_series.proofs.Walking.{going_none, held_here, going_less, going_past, going_on, going_all}
 use native.Mathlib.Omega.{arith}

@@ -1,5 +1,4 @@
 -- `line_served::walk_served` meets its contract. The loop's invariant: of the offsets met so far just one line meets each, and none meets the others. Assumes nothing.
-use Prim.Native.Nat.{◌-◌}
 use mathlib.Core.Path.{sym, ◌∙◌}
 use borrow.Author.Tests.{eqb-true, not-false}
 use Rattle.model.proofs.Tests.{eq→T}

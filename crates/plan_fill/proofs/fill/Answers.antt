@@ -1,5 +1,4 @@
 -- `plan_fill::fill` meets its contract. The loop's invariant: the circuits before c are in the plan. Assumes nothing.
-use Prim.Native.Nat.{◌-◌}
 use Rattle.model.proofs.Readers.{request_sound}
 use Rattle.plan_fill.proofs.Loading.{filling_none, filling_more, filling_all}
 use native.Mathlib.Omega.{arith}

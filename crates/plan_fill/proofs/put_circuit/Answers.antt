@@ -1,5 +1,4 @@
 -- `plan_fill::put_circuit` meets its contract. The loop's invariant: the hops before j are put into their places. Assumes nothing.
-use Prim.Native.Nat.{◌-◌}
 use mathlib.Core.Path.{refl, sym}
 use Rattle.model.specs.Network.{inport}
 use Rattle.model.proofs.Sound.{after_first}

@@ -1,5 +1,4 @@
 -- `plan_masks::fill` meets its contract: the masks of the circuits before c stand. Assumes nothing.
-use Prim.Native.Nat.{◌-◌}
 use Rattle.plan_masks.proofs.Masking.{masks_none, start_low, rising_here, masks_more, masks_all}
 use native.Mathlib.Omega.{arith}
 use Rattle.plan_masks.proofs.fill.Goals as goal

@@ -1,5 +1,4 @@
 -- `plan_masks::mask_at` meets its contract: the offsets before i are in the mask. Assumes nothing.
-use Prim.Native.Nat.{◌-◌}
 use native.Mathlib.Omega.{arith}
 use Rattle.plan_masks.proofs.Taking.{start_here, above_here, on_here, end_here}
 use Rattle.plan_masks.proofs.mask_at.Goals as goal

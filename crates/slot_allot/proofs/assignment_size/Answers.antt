@@ -1,5 +1,4 @@
 -- `slot_allot::assignment_size` meets its contract. The loop's invariant: the sum over the circuits so far, which stays small. Assumes nothing.
-use Prim.Native.Nat.{◌-◌}
 use Rattle.slot_allot.proofs.Counting.{counted_none, counted_more, counted_all}
 use native.Mathlib.Omega.{arith}
 use Rattle.slot_allot.proofs.assignment_size.Goals as goal

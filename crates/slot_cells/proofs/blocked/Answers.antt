@@ -1,11 +1,9 @@
 -- `slot_cells::blocked` meets its contract: what is joined so far, and what the circuits from e on shut, is the whole. Assumes nothing.
 use mathlib.Core.Path.{sym, ap, ◌∙◌}
 use mathlib.Core.Bool.{Bool, ◌||◌, or-false}
-use mathlib.Core.List.{List, map}
-use Prim.Native.Nat.{ℕ, ◌+◌, ◌-◌}
+use Prim.Native.Nat.{ℕ, ◌+◌}
 use native.Mathlib.Omega.{arith}
-use lib.ListN.{take, drop}
-use Rattle.num_mask.specs.Bits.{bit, offsets}
+use Rattle.num_mask.specs.Bits.{bit}
 use Rattle.num_mask.proofs.Laws.{bit-none}
 use Rattle.slot_cells.proofs.ShutLaws.{still, shut_step, shut_done}
 use Rattle.slot_cells.proofs.blocked.Goals as goal

@@ -1,7 +1,7 @@
 -- `slot_cells::gather` meets its contract: what is joined so far, joined with the entries of the bits that are left, is the whole.
 -- The measure is the rest of the mask. Assumes nothing.
 use mathlib.Core.Path.{◌≡◌}
-use Prim.Native.Nat.{◌<◌, ◌-◌, ◌^◌}
+use Prim.Native.Nat.{◌<◌, ◌^◌}
 use Rattle.model.specs.Sizes.{cycle_most}
 use Rattle.num_mask.specs.Bits.{offsets}
 use Rattle.slot_cells.specs.Cells.{gathered}

@@ -1,5 +1,4 @@
 -- `slot_grid::barred` meets its contract. The loop's invariant: the offsets passed are settled. Assumes nothing.
-use Prim.Native.Nat.{◌-◌}
 use mathlib.Core.Path.{sym, ◌∙◌}
 use native.Mathlib.Omega.{arith}
 use borrow.Author.Tests.{not-true, not-false}

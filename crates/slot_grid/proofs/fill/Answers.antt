@@ -1,5 +1,4 @@
 -- `slot_grid::fill` meets its contract. The loop's invariant: the entries of the circuits passed are filled in. Assumes nothing.
-use Prim.Native.Nat.{◌-◌}
 use mathlib.Core.Path.{refl, ◌∙◌}
 use Rattle.slot_grid.proofs.Filling.{grid_none, grid_more, grid_all}
 use native.Mathlib.Omega.{arith}

@@ -1,5 +1,4 @@
 -- `slot_grid::fill_circuit` meets its contract. The loop's invariant: the entries of the pairs passed are filled in. Assumes nothing.
-use Prim.Native.Nat.{◌-◌}
 use Rattle.slot_grid.proofs.Filling.{circuit_none, circuit_more, circuit_all}
 use native.Mathlib.Omega.{arith}
 use Rattle.slot_grid.proofs.fill_circuit.Goals as goal

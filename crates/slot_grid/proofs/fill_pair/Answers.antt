@@ -1,5 +1,4 @@
 -- `slot_grid::fill_pair` meets its contract. The loop's invariant: the entries passed are filled in. Assumes nothing.
-use Prim.Native.Nat.{◌-◌}
 use native.Mathlib.Omega.{arith}
 use Rattle.slot_grid.proofs.Filling.{pair_none, pair_more, pair_all}
 use Rattle.slot_grid.proofs.fill_pair.Goals as goal

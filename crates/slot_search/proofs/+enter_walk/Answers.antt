@@ -4,7 +4,7 @@ use mathlib.Core.Path.{◌≡◌, sym, ◌∙◌}
 use mathlib.Core.List.{List, map}
 use native.Mathlib.Omega.{arith}
 use Prim.Native.Nat.{ℕ, ◌-◌, ◌<◌, ◌≤◌}
-use lib.ListN.{take, length-set}
+use lib.ListN.{take}
 use lib.Count.{ones}
 use Rattle.model.specs.Sizes.{cycle_most}
 use Rattle.num_mask.specs.Bits.{offsets}
@@ -101,11 +101,11 @@ walk-returns-then-cycle-have t c =
     let in_cycle = inside c.loop-a.invariant c.cycle-cycle.ensures c.demand-demand.ensures c.next_cell-next.ensures c.if-a-cycle.false in
     let one_more = wanted c.loop-a.invariant c.cycle-cycle.ensures c.demand-demand.ensures c.next_cell-next.ensures c.if-a-cycle.false in
     let met : Nothing i c.if-shut-a-eq0.taken c.if-shut-a-eq0.left =
-        elim c.if-shut-a-eq0.branch [
-          walk-then-shut-a-eq0+else-left-eq0+in-NoRoom w ↦
-              tried i in_cycle one_more w.if-shut-a-eq0.true w.if-left-eq0.false w.in-NoRoom.is w.walk-tried.ensures w.walk-tried.auto.taken w.taken-is w.left-is
-          | walk-else-shut-a-eq0 w ↦ not_free i w.if-shut-a-eq0.false w.taken-is w.left-is
-        ] in
+    elim c.if-shut-a-eq0.branch [
+      | walk-then-shut-a-eq0+else-left-eq0+in-NoRoom w ↦
+          tried i in_cycle one_more w.if-shut-a-eq0.true w.if-left-eq0.false w.in-NoRoom.is w.walk-tried.ensures w.walk-tried.auto.taken w.taken-is w.left-is
+      | walk-else-shut-a-eq0 w ↦ not_free i w.if-shut-a-eq0.false w.taken-is w.left-is
+    ] in
     out_shut i in_cycle met (must_take c.cycle-cycle.ensures c.demand-demand.ensures (ones c.args.at.mask) c.next_cell-next.result c.if-cycle-have.true)
 
 pub walk-returns-then-left-eq0-2 : goal.walk-returns-then-left-eq0-2
@@ -114,11 +114,11 @@ walk-returns-then-left-eq0-2 t c =
     let in_cycle = inside c.loop-a.invariant c.cycle-cycle.ensures c.demand-demand.ensures c.next_cell-next.ensures c.if-a-cycle.false in
     let one_more = wanted c.loop-a.invariant c.cycle-cycle.ensures c.demand-demand.ensures c.next_cell-next.ensures c.if-a-cycle.false in
     let met : Nothing i c.if-shut-a-eq0.taken c.if-shut-a-eq0.left =
-        elim c.if-shut-a-eq0.branch [
-          walk-then-shut-a-eq0+else-left-eq0+in-NoRoom w ↦
-              tried i in_cycle one_more w.if-shut-a-eq0.true w.if-left-eq0.false w.in-NoRoom.is w.walk-tried.ensures w.walk-tried.auto.taken w.taken-is w.left-is
-          | walk-else-shut-a-eq0 w ↦ not_free i w.if-shut-a-eq0.false w.taken-is w.left-is
-        ] in
+    elim c.if-shut-a-eq0.branch [
+      | walk-then-shut-a-eq0+else-left-eq0+in-NoRoom w ↦
+          tried i in_cycle one_more w.if-shut-a-eq0.true w.if-left-eq0.false w.in-NoRoom.is w.walk-tried.ensures w.walk-tried.auto.taken w.taken-is w.left-is
+      | walk-else-shut-a-eq0 w ↦ not_free i w.if-shut-a-eq0.false w.taken-is w.left-is
+    ] in
     out_broke i in_cycle met (may_skip c.cycle-cycle.ensures c.demand-demand.ensures (ones c.args.at.mask) c.next_cell-next.result c.if-cycle-have.false) c.if-left-eq0-2.true
 
 pub walk-loop-a-preserved : goal.walk-loop-a-preserved
@@ -127,11 +127,11 @@ walk-loop-a-preserved t c =
     let in_cycle = inside c.loop-a.invariant c.cycle-cycle.ensures c.demand-demand.ensures c.next_cell-next.ensures c.if-a-cycle.false in
     let one_more = wanted c.loop-a.invariant c.cycle-cycle.ensures c.demand-demand.ensures c.next_cell-next.ensures c.if-a-cycle.false in
     let met : Nothing i c.if-shut-a-eq0.taken c.if-shut-a-eq0.left =
-        elim c.if-shut-a-eq0.branch [
-          walk-then-shut-a-eq0+else-left-eq0+in-NoRoom w ↦
-              tried i in_cycle one_more w.if-shut-a-eq0.true w.if-left-eq0.false w.in-NoRoom.is w.walk-tried.ensures w.walk-tried.auto.taken w.taken-is w.left-is
-          | walk-else-shut-a-eq0 w ↦ not_free i w.if-shut-a-eq0.false w.taken-is w.left-is
-        ] in
+    elim c.if-shut-a-eq0.branch [
+      | walk-then-shut-a-eq0+else-left-eq0+in-NoRoom w ↦
+          tried i in_cycle one_more w.if-shut-a-eq0.true w.if-left-eq0.false w.in-NoRoom.is w.walk-tried.ensures w.walk-tried.auto.taken w.taken-is w.left-is
+      | walk-else-shut-a-eq0 w ↦ not_free i w.if-shut-a-eq0.false w.taken-is w.left-is
+    ] in
     turn_again i in_cycle met (may_skip c.cycle-cycle.ensures c.demand-demand.ensures (ones c.args.at.mask) c.next_cell-next.result c.if-cycle-have.false) c.if-left-eq0-2.false
 
 pub walk-returns : goal.walk-returns

@@ -1,5 +1,4 @@
 -- `slot_writer::put_places` meets its contract: each turn lays in the lowest offset that is left. Assumes nothing.
-use Prim.Native.Nat.{◌-◌}
 use Rattle.num_mask.specs.Bits.{offsets}
 use Rattle.file_writer.proofs.Rest.{Rest}
 use Rattle.slot_writer.proofs.put_places.Given as goal

@@ -1,5 +1,4 @@
 -- `slot_writer::write_assignment` meets its contract. Each turn lays in one record, and the end record comes last. Assumes nothing.
-use Prim.Native.Nat.{◌-◌}
 use Rattle.file_writer.proofs.Rest.{rest_start, part_room, part_more}
 use Rattle.file_writer.proofs.Files.{end_room, end_laid}
 use Rattle.slot_writer.proofs.Files.{assignment_room_lem, assignment-is}
