@@ -11,7 +11,7 @@ help: ## say what can be made
 run: ## prove and build the programs book and vask, and book the slots of a small net
 	@sh scripts/first
 
-test: ## show everything that is claimed, from nothing; ends with 'N passed, 0 failed'
+test: ## show everything that is claimed; ends with 'N passed, 0 failed'
 	sh tests/run
 
 install: ## put libvaskunoor.a, its header, vaskunoor.pc and vask under PREFIX (/usr/local)
@@ -27,5 +27,5 @@ bench: ## time the proved jobs against a plain program, and measure their stack 
 mutants: ## make each definition of the model wrong in one place; no part of the tests
 	sh tests/mutants
 
-clean: ## remove everything that was built
-	rm -rf target rust/target
+clean: ## remove everything that was built, and what rt keeps of the proofs
+	rm -rf target rust/target crates/*/out
