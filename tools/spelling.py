@@ -19,9 +19,11 @@ FUNCTION = re.compile(r"^\s*(?:abbrev|unfoldable|irreducible) ")
 MADE = re.compile(r"^(?:tie|goal)\.")
 STEP = re.compile(r"\.(?:ensures|result|new|true|false|is|was|invariant|branch|auto)(?![\w-])")
 RESERVED = {"in", "as", "data", "open", "record", "ruleset", "where", "module", "use", "pub", "let", "elim", "ground", "assumption", "at", "with", "if", "else"}
-# by hand: a name that the library spells anew, and lemmas that would have the name of their function
+# words of the library that are plain words in the name of a lemma
+PLAIN = {"is", "miss"}
+# by hand: names that the library spells anew, and lemmas that would have the name of their function
 GIVEN = {"getD": "get_or"}
-LEMMAS = {"no_room": "no_room_lem", "send_at": "send_at_lem", "too_short": "too_short_lem"}
+LEMMAS = {"get_d_map": "get_or-map", "no_room": "no_room_lem", "send_at": "send_at_lem", "too_short": "too_short_lem"}
 
 
 def texts(*ends):
@@ -87,7 +89,7 @@ def joined(name, names):
 def rows():
     names, made, defs = declared()
     library = library_words()
-    known = defs | {w for w in library if w[:1].islower() and "-" not in w}
+    known = defs | {w for w in library if w[:1].islower() and "-" not in w and w not in PLAIN}
     # words that stand alone somewhere, not in a path: a new spelling must not meet one that stays
     tokens = set()
     for path in texts(".antt"):

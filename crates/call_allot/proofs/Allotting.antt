@@ -13,7 +13,7 @@ use Rattle.model.specs.Search.{Reply, slots, full, unfinished, reply, whole}
 use Rattle.model.specs.Reading.{request}
 use Rattle.model.specs.Jobs.{allot, allocate, settled, assignment_size, assignment_bytes}
 use Rattle.model.specs.declared.Answer.TheVariants.{Allocated, NoRoom, Unfinished, Short}
-use Rattle.model.proofs.Tests.{get_d_map}
+use Rattle.model.proofs.Tests.{get_or-map}
 use Rattle.model.proofs.Searching.{given_fits, reply_slots}
 use Rattle.model.proofs.Writes.{assignment-length}
 use Rattle.model.proofs.Files.{short_none}
@@ -87,8 +87,8 @@ module _ (p : List ℕ) (needed : ℕ) (size : SizeFor p needed) where
       abbrev assigned : List (List ℕ)
       assigned = map offsets (take (circuits_in p) masks)
 
-      is-long : (q : Request) → Stands q p → length (assignment_bytes assigned) ≡ needed
-      is-long q s =
+      is_long : (q : Request) → Stands q p → length (assignment_bytes assigned) ≡ needed
+      is_long q s =
           let f = given_fits q s.sound v assigned (reply_slots budget (whole q) v assigned (done_slots (replied q s) v e)).0 in
           assignment-length q assigned (record { each = f.each; suits = f.suits }) ∙ sym (size q s)
 
@@ -99,13 +99,13 @@ module _ (p : List ℕ) (needed : ℕ) (size : SizeFor p needed) where
         assigns : MasksFor assigned p masks
         assigns = record {
           each = length-map (take (circuits_in p) masks) offsets ∙ taken_many;
-          taken = λ c k. get_d_map offsets (take (circuits_in p) masks) c 0 [] (omega (arith, taken_many)) ∙ ap offsets (get_or-take (circuits_in p) masks c 0 k);
+          taken = λ c k. get_or-map offsets (take (circuits_in p) masks) c 0 [] (omega (arith, taken_many)) ∙ ap offsets (get_or-take (circuits_in p) masks c 0 k);
         }
 
         pub room_here : Loaded p → assignment_room p masks ≤ length old
-        room_here l = omega (arith, assignment_size_lem assigns, is-long (request l.req) l.stands)
+        room_here l = omega (arith, assignment_size_lem assigns, is_long (request l.req) l.stands)
 
         pub given_here : (new : List ℕ) (n : ℕ) → WroteAssignment p masks old new n → Allots p budget old (Allocated v needed) new
         given_here new n w = record {
-          is = λ q s. sym (searched q s ∙ ap (settled budget old) (done_slots (replied q s) v e) ∙ rw ((w.wrote assigned assigns).area, is-long q s) refl);
+          is = λ q s. sym (searched q s ∙ ap (settled budget old) (done_slots (replied q s) v e) ∙ rw ((w.wrote assigned assigns).area, is_long q s) refl);
         }

@@ -21,7 +21,7 @@ use Rattle.model.proofs.Clashing.{holds→, →holds, →clashes, turned, Holds_
 use Rattle.model.proofs.Sound.{uses_small}
 use Rattle.model.proofs.Checking.{clash_none, clash_first}
 use Rattle.plan.specs.Plan.{circuits_in, booking_in, Booked, InBounds}
-use Rattle.plan.proofs.Laws.{booking-is}
+use Rattle.plan.proofs.Laws.{booking_is}
 use Rattle.clash_held.specs.Held.{SlotsOf}
 
 -- ---- two circuits
@@ -150,7 +150,7 @@ module _ {q : Request} {assigned : List (List ℕ)} {p m : List ℕ} (b : Booked
 
   -- the pairs that were passed do not clash
   apart : {c d : ℕ} → c < circuits_in p → d < circuits_in p → ClearPair (booking_in p m c) (booking_in p m d) → Clash (booking q assigned c) (booking q assigned d) → ⊥
-  apart hc hd clear = pair_apart (small hc) (positive hc) (positive hd) (rw (booking-is b hc, booking-is b hd) at clear)
+  apart hc hd clear = pair_apart (small hc) (positive hc) (positive hd) (rw (booking_is b hc, booking_is b hd) at clear)
 
   pub nowhere : {n i : ℕ} → ClearLower (booking_in p m) n i → n ≤ i → n ≡ circuits_in p → none ≡ clash_fault q assigned
   nowhere {n} {i} lower all is = sym ((clash_none q b.stands.sound assigned).1 (record {
@@ -176,7 +176,7 @@ module _ {q : Request} {assigned : List (List ℕ)} {p m : List ℕ} (b : Booked
       sym ((clash_first q b.stands.sound assigned i j t w).1 (record {
         order = order;
         listed = listed hj;
-        first = rw (booking-is b hi, booking-is b hj) at first;
+        first = rw (booking_is b hi, booking_is b hj) at first;
         sooner = λ c d k h x cl. sooner k (rw b.stands.many h) x cl;
       }))
     where
@@ -187,7 +187,7 @@ module _ {q : Request} {assigned : List (List ℕ)} {p m : List ℕ} (b : Booked
       hi = omega arith
 
       first : FirstClash (booking_in p m i) (booking_in p m j) t w
-      first = pair_first (rw (booking-is b hi) (small hi)) ct cw (sym both ∙ e)
+      first = pair_first (rw (booking_is b hi) (small hi)) ct cw (sym both ∙ e)
 
       sooner : {c d : ℕ} → c < d → d < circuits_in p → (c < i) ⊎ ((c ≡ i) × (d < j)) → Clash (booking q assigned c) (booking q assigned d) → ⊥
       sooner {c} {d} k h (inl x) cl = apart (omega arith) h ((ci.none c x).none d k (omega arith)) cl

@@ -28,8 +28,8 @@ module _ (p : ℕ → Bool) where
   any_hit : {rest t : ℕ} → Lowest rest t → p t ≡ true → any p (offsets rest) ≡ true
   any_hit {rest} {t} l e = any-first l ∙ ap (λ b. b || any p (offsets (rest - 2 ^ t))) e
 
-  any-miss : {rest t more : ℕ} → Lowest rest t → p t ≡ false → more ≡ rest - 2 ^ t → any p (offsets rest) ≡ any p (offsets more)
-  any-miss {rest} {t} l e m = any-first l ∙ ap (λ b. b || any p (offsets (rest - 2 ^ t))) e ∙ ap (λ x. any p (offsets x)) (sym m)
+  any_miss : {rest t more : ℕ} → Lowest rest t → p t ≡ false → more ≡ rest - 2 ^ t → any p (offsets rest) ≡ any p (offsets more)
+  any_miss {rest} {t} l e m = any-first l ∙ ap (λ b. b || any p (offsets (rest - 2 ^ t))) e ∙ ap (λ x. any p (offsets x)) (sym m)
 
 -- ---- one offset against those of a mask
 
@@ -45,7 +45,7 @@ module _ (bad g a rest : ℕ) where
   pub one_miss : {t d more : ℕ} → Lowest rest t → d ≡ ahead g a t → bit bad d ≡ false → more ≡ rest - 2 ^ t
       → one_hits bad g a rest ≡ one_hits bad g a more
   unfolding one_hits
-  one_miss l e b m = any-miss _ l (rw (← e) b) m
+  one_miss l e b m = any_miss _ l (rw (← e) b) m
 
 -- ---- the offsets of a mask against those of another
 
@@ -60,7 +60,7 @@ module _ (bad g rest m : ℕ) where
 
   pub all_miss : {t more : ℕ} → Lowest rest t → one_hits bad g t m ≡ false → more ≡ rest - 2 ^ t → hits_any bad g rest m ≡ hits_any bad g more m
   unfolding hits_any
-  all_miss l b e = any-miss _ l b e
+  all_miss l b e = any_miss _ l b e
 
 -- ---- two circuits
 

@@ -13,7 +13,7 @@ use Rattle.model.specs.Holding.{offsets_of}
 use Rattle.model.specs.Reading.{have, starts, offsets_verdict, assignment_walk, offsets_at, assignment}
 use Rattle.model.specs.Jobs.{assignment_fault}
 use Rattle.model.specs.declared.Verdict.TheVariants.{Fine}
-use Rattle.model.proofs.Tests.{get_d_map}
+use Rattle.model.proofs.Tests.{get_or-map}
 use Rattle.model.proofs.Readers.{offsets_free, offsets_tests_lem, offsets_sound}
 use Rattle.file_records.specs.Fields.{places_of}
 use Rattle.file_records.specs.declared.Ending.TheVariants.{Whole}
@@ -54,7 +54,7 @@ module _ (q : Request) (s : List ℕ) where
 
     pub offsets_are : offsets_of (assignment q s) c ≡ offsets_at s a
     unfolding assignment
-    offsets_are = get_d_map (offsets_at s) (starts (assignment_walk q s)) c 0 [] found ∙ ap (offsets_at s) (sym b.is)
+    offsets_are = get_or-map (offsets_at s) (starts (assignment_walk q s)) c 0 [] found ∙ ap (offsets_at s) (sym b.is)
 
     pub record_inside : a + head_size + length_at s a ≤ length s
     record_inside =

@@ -13,7 +13,7 @@ use Rattle.model.specs.Lines.{line_of, no_line}
 use Rattle.model.specs.Sound.{SoundLine}
 use Rattle.model.specs.Reading.{Walked, complete, stopped, starts, line_verdict, table_step, table_walk, line_at, table}
 use Rattle.model.specs.declared.Step.TheVariants.{Next}
-use Rattle.model.proofs.Tests.{same, get_d_map}
+use Rattle.model.proofs.Tests.{same, get_or-map}
 use Rattle.model.proofs.Records.{Row, Comes, walk_comes, Passes, step_says}
 use Rattle.model.proofs.Readers.{line_tests_lem, table_sound}
 use Rattle.file_line.specs.Parts.{line_start, LineIn}
@@ -51,7 +51,7 @@ module _ (net : Network) (s : List ℕ) (m : ℕ) (here : LineIn net s m) where
   -- line m is read at its start
   pub line_is : line_of (table net s) m ≡ line_at s (line_start m)
   unfolding table
-  line_is = get_d_map (line_at s) (starts (table_walk net s)) m 0 no_line listed ∙ ap (line_at s) (start_is net s m listed)
+  line_is = get_or-map (line_at s) (starts (table_walk net s)) m 0 no_line listed ∙ ap (line_at s) (start_is net s m listed)
 
   pub line_good : SoundLine net (line_at s (line_start m))
   line_good = rw line_is at ((table_sound net s here.whole).each m here.low)

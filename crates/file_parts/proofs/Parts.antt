@@ -15,7 +15,7 @@ use Rattle.model.specs.Network.{Circuit, circuit_of, no_circuit, hops, hop}
 use Rattle.model.specs.Reading.{from_place, path_place, have, starts, buffers_of, hops_at, hop_at, circuit_at, circuit_verdict, request_walk, request}
 use Rattle.model.specs.Jobs.{request_fault}
 use Rattle.model.specs.declared.Verdict.TheVariants.{Fine}
-use Rattle.model.proofs.Tests.{get_d_map, get_or-up_to, length-up_to}
+use Rattle.model.proofs.Tests.{get_or-map, get_or-up_to, length-up_to}
 use Rattle.model.specs.Sound.{SoundPath}
 use Rattle.model.proofs.Readers.{buffers_are, from_is, circuit_tests_lem, request_free, request_sound}
 use Rattle.file_records.specs.Fields.{Byte, Word}
@@ -33,7 +33,7 @@ module _ (s : List ℕ) (c a : ℕ) (g : StartsAt s c a) where
   pub circuit_is : circuit_of (request s) c ≡ circuit_at s a
   unfolding request
   circuit_is =
-      get_d_map (circuit_at s) (starts (request_walk s)) c 0 no_circuit (omega (arith, g.low, circuits_are s))
+      get_or-map (circuit_at s) (starts (request_walk s)) c 0 no_circuit (omega (arith, g.low, circuits_are s))
       ∙ ap (circuit_at s) (sym g.is)
 
   path : SoundPath (request s).network (circuit_of (request s) c)

@@ -6,7 +6,7 @@ use native.Mathlib.Decide.{dec_lt}
 use native.Mathlib.Omega.{arith}
 use lib.Dec.{T}
 use Rattle.model.specs.Tests.{least}
-use Rattle.model.proofs.Tests.{Least, least-is, T→eq, eq→T}
+use Rattle.model.proofs.Tests.{Least, least_is, T→eq, eq→T}
 use Rattle.line_chains.specs.Chains.{next_in}
 
 pub T_false : (b : Bool) → b ≡ false → T b → ⊥
@@ -39,7 +39,7 @@ module _ (n : ℕ) (p : ℕ → Bool) where
   }
     where
       is : Least (n - i) (λ d. p (i + d)) (least (n - i) (λ d. p (i + d)))
-      is = least-is _ _
+      is = least_is _ _
 
   -- there is one only
   pub next_only : {i r s : ℕ} → Next i r → Next i s → r ≡ s

@@ -25,7 +25,7 @@ use Rattle.model.proofs.Readers.{table_sound}
 use Rattle.file_line.specs.Parts.{LineIn}
 use Rattle.file_line.proofs.Parts.{line_is, line_good}
 use Rattle.plan.specs.Plan.{circuits_in, send_count, port_of, port_in, send_in, Stands}
-use Rattle.plan.proofs.Laws.{cycle_is, send_count_is, send-is, port_is}
+use Rattle.plan.proofs.Laws.{cycle_is, send_count_is, send_is, port_is}
 use Rattle.line_chains.specs.Chains.{port_at, line_in, has, Tabled}
 use Rattle.line_series.specs.Judging.{agrees_of, covers_of, meets_at, part_at, one_of, again_at, met_by, fault_by, fault_at, hop_fault}
 use Rattle.line_check.specs.Checks.{first_of, offset_fault, circuit_fault, Facts}
@@ -52,8 +52,8 @@ data AtPort (net : Network) (s : Series) (port : ℕ) : Type 0 where
   at_local : s.inp ≡ local → port ≡ inport_of s.router → AtPort net s port
   at_buffer : s.inp ≡ port → port < buffers_most → to_router net port ≡ s.router → AtPort net s port
 
-port_is-local : (router i : ℕ) → i ≡ local → port_of router i ≡ inport_of router
-port_is-local router i e = rw (eq-eqb i local e) refl
+port_is_local : (router i : ℕ) → i ≡ local → port_of router i ≡ inport_of router
+port_is_local router i e = rw (eq-eqb i local e) refl
 
 port_is_buffer : (router i : ℕ) → i < buffers_most → port_of router i ≡ i
 port_is_buffer router i h = rw (ne_eqb i local (λ e. omega arith)) refl
@@ -61,13 +61,13 @@ port_is_buffer router i h = rw (ne_eqb i local (λ e. omega arith)) refl
 module _ (net : Network) (small : length net.links ≤ buffers_most) (l : Line) (good : SoundLine net l) (s : Series) (port : ℕ) where
   -- it stands there where router and in are the line's
   same_port : AtPort net s port → l.router ≡ s.router → l.inp ≡ s.inp → port_of l.router l.inp ≡ port
-  same_port (at_local i p) er ei = port_is-local l.router l.inp (ei ∙ i) ∙ ap inport_of er ∙ sym p
+  same_port (at_local i p) er ei = port_is_local l.router l.inp (ei ∙ i) ∙ ap inport_of er ∙ sym p
   same_port (at_buffer i h to) er ei = port_is_buffer l.router l.inp (omega (arith, ei, i)) ∙ ei ∙ i
 
   port_same : AtPort net s port → (l.inp ≡ local) ⊎ LeadsTo net l.inp l.router → port_of l.router l.inp ≡ port → (l.router ≡ s.router) × (l.inp ≡ s.inp)
-  port_same (at_local i p) (inl e) x = (omega (arith, port_is-local l.router l.inp e), e ∙ sym i)
+  port_same (at_local i p) (inl e) x = (omega (arith, port_is_local l.router l.inp e), e ∙ sym i)
   port_same (at_local i p) (inr b) x = absurd (omega (arith, b.known, port_is_buffer l.router l.inp (omega (arith, b.known))))
-  port_same (at_buffer i h to) (inl e) x = absurd (omega (arith, port_is-local l.router l.inp e))
+  port_same (at_buffer i h to) (inl e) x = absurd (omega (arith, port_is_local l.router l.inp e))
   port_same (at_buffer i h to) (inr b) x =
       let e : l.inp ≡ port = sym (port_is_buffer l.router l.inp (omega (arith, b.known))) ∙ x in
       (sym b.to ∙ ap (λ n. to_router net n) e ∙ to, e ∙ sym i)
@@ -109,7 +109,7 @@ module _ (q : Request) (sound : SoundRequest q) (t : List ℕ) (whole : damage t
       good = line_good net t m (line_at m h)
 
       pick : ((line_in t m).inp ≡ local) ⊎ LeadsTo net (line_in t m).inp (line_in t m).router → port_of (line_in t m).router (line_in t m).inp < resources_most
-      pick (inl e) = omega (arith, port_is-local (line_in t m).router (line_in t m).inp e, good.router, sound.routers)
+      pick (inl e) = omega (arith, port_is_local (line_in t m).router (line_in t m).inp e, good.router, sound.routers)
       pick (inr b) = omega (arith, port_is_buffer (line_in t m).router (line_in t m).inp (omega (arith, b.known, sound.buffers)), b.known, sound.buffers)
 
   pub tabled : Tabled t (length Lines)
@@ -201,10 +201,10 @@ module _ (q : Request) (assigned : List (List ℕ)) (p m t : List ℕ) (lines : 
         let e : port_in p c (suc i) ≡ hop C i = port_is stands low (suc i) on ∙ port_is_buffer _ _ small in
         at_buffer (sym e) (omega arith) (ap (λ b. to_router q.network b) e ∙ (stands.sound.path c listed).joined i there)
 
-    hop-is : (a j : ℕ) → j < send_count p c → hop_fault p t lines c a j ≡ series_fault q (table q.network t) c a j
+    hop_is : (a j : ℕ) → j < send_count p c → hop_fault p t lines c a j ≡ series_fault q (table q.network t) c a j
     unfolding hop_fault series send_in
-    hop-is a j on =
-        let s = send-is stands low j on in
+    hop_is a j on =
+        let s = send_is stands low j on in
         rw (f.lined, cycle_is stands low, ap (λ (x : Send). x.out) s, ap (λ (x : Send). x.after) s)
         (fault_same q stands.sound t f.whole c a j _ (port_at_lem a j on))
 
@@ -213,7 +213,7 @@ module _ (q : Request) (assigned : List (List ℕ)) (p m t : List ℕ) (lines : 
     unfolding circuit_fault offset_fault
     circuit_is =
         rw (f.booked.taken c low, ← send_count_is stands low)
-        (first_in_lem (offsets_of assigned c) (offset_fault p t lines c) ∙ first_same _ _ _ (λ o h. first_same _ _ _ (λ j on. hop-is _ j on)))
+        (first_in_lem (offsets_of assigned c) (offset_fault p t lines c) ∙ first_same _ _ _ (λ o h. first_same _ _ _ (λ j on. hop_is _ j on)))
 
   -- what the check finds over the plan is the fault of the request's lines
   pub faults_are : first (circuits_in p) (circuit_fault p m t lines) ≡ lines_fault q assigned (table q.network t)

@@ -9,7 +9,7 @@ use Rattle.model.specs.Network.{Request, Send}
 use Rattle.model.specs.Lines.{series, line_for}
 use Rattle.model.specs.Jobs.{line_body}
 use Rattle.plan.specs.Plan.{circuits_in, cycle_in, send_count, router_in, inp_in, out_in, sent_in, send_in, Booked}
-use Rattle.plan.proofs.Laws.{cycle_is, send-is}
+use Rattle.plan.proofs.Laws.{cycle_is, send_is}
 use Rattle.line_record.specs.Record.{line_record, send_bytes}
 
 module _ (p : List ℕ) (c : ℕ) where
@@ -30,4 +30,4 @@ module _ {q : Request} {assigned : List (List ℕ)} {p m : List ℕ} (b : Booked
   pub send_line : (a j : ℕ) → j < send_count p c → send_bytes p c a j ≡ of_send q c a j
   unfolding send_bytes send_in series line_for
   send_line a j l =
-      ap₂ (λ (x : Send) (d : ℕ). line_record x.router d ((a + x.after) % d) x.inp x.out) (send-is b.stands h j l) (cycle_is b.stands h)
+      ap₂ (λ (x : Send) (d : ℕ). line_record x.router d ((a + x.after) % d) x.inp x.out) (send_is b.stands h j l) (cycle_is b.stands h)

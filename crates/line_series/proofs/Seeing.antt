@@ -7,7 +7,7 @@ use native.Mathlib.Omega.{arith}
 use borrow.Author.Tests.{ltb-true, ltb-false}
 use lib.Dec.{ltb}
 use Rattle.model.specs.Tests.{least}
-use Rattle.model.proofs.Tests.{Least, least-is, T→eq, eq→T}
+use Rattle.model.proofs.Tests.{Least, least_is, T→eq, eq→T}
 use Rattle.line_chains.proofs.Chains.{T_false, false_of}
 use Rattle.line_series.specs.Judging.{seen}
 
@@ -18,12 +18,12 @@ module _ (n : ℕ) (p : ℕ → Bool) where
     pub where_not : m ≤ r → r ≡ n
     pub none_before : (j : ℕ) → j < r → j < m → p j ≡ false
 
-  pub seen-is : (m : ℕ) → m ≤ n → Seen m (seen n p m)
+  pub seen_is : (m : ℕ) → m ≤ n → Seen m (seen n p m)
   unfolding seen
-  seen-is m h = pick (ltb (least m p) m) refl
+  seen_is m h = pick (ltb (least m p) m) refl
     where
       is : Least m p (least m p)
-      is = least-is m p
+      is = least_is m p
 
       pick : (b : Bool) → ltb (least m p) m ≡ b → Seen m (cond (ltb (least m p) m) (least m p) n)
       pick true e = rw e (record {
@@ -54,18 +54,18 @@ module _ (n : ℕ) (p : ℕ → Bool) where
       pick (no a) (no b) = x.where_not (omega arith) ∙ sym (y.where_not (omega arith))
 
   pub seen_none : seen n p 0 ≡ n
-  seen_none = (seen-is 0 (omega arith)).where_not (omega arith)
+  seen_none = (seen_is 0 (omega arith)).where_not (omega arith)
 
   -- none between m and k passes
   pub seen-over : (m k : ℕ) → m ≤ k → k ≤ n → ((j : ℕ) → m ≤ j → j < k → p j ≡ false) → seen n p k ≡ seen n p m
-  seen-over m k h l clear = seen_only l (seen-is k l) (record {
+  seen-over m k h l clear = seen_only l (seen_is k l) (record {
     found = λ a. found (dec_lt (seen n p m) m) a;
     where_not = λ a. x.where_not (omega arith);
     none_before = λ j a b. before j a b (dec_lt j m);
   })
     where
       x : Seen m (seen n p m)
-      x = seen-is m (omega arith)
+      x = seen_is m (omega arith)
 
       found : Dec (seen n p m < m) → seen n p m < k → p (seen n p m) ≡ true
       found (yes b) a = x.found b
@@ -77,21 +77,21 @@ module _ (n : ℕ) (p : ℕ → Bool) where
 
   -- m passes, and is the first, or not
   pub seen_first : (m : ℕ) → m < n → p m ≡ true → seen n p m ≡ n → seen n p (suc m) ≡ m
-  seen_first m h t e = seen_only h (seen-is (suc m) h) (record {
+  seen_first m h t e = seen_only h (seen_is (suc m) h) (record {
     found = λ a. t;
     where_not = λ a. absurd (omega arith);
-    none_before = λ j a b. (seen-is m (omega arith)).none_before j (omega arith) a;
+    none_before = λ j a b. (seen_is m (omega arith)).none_before j (omega arith) a;
   })
 
   pub seen-before : (m : ℕ) → m < n → seen n p m < n → seen n p (suc m) ≡ seen n p m
-  seen-before m h l = seen_only h (seen-is (suc m) h) (record {
+  seen-before m h l = seen_only h (seen_is (suc m) h) (record {
     found = λ a. x.found inside;
     where_not = λ a. absurd (omega (arith, inside));
     none_before = λ j a b. x.none_before j a (omega (arith, inside));
   })
     where
       x : Seen m (seen n p m)
-      x = seen-is m (omega arith)
+      x = seen_is m (omega arith)
 
       inside : seen n p m < m
       inside = go (dec_lt (seen n p m) m)
@@ -101,8 +101,8 @@ module _ (n : ℕ) (p : ℕ → Bool) where
           go (no a) = absurd (omega (arith, x.where_not (omega arith)))
 
   pub seen_all : seen n p n ≡ least n p
-  seen_all = seen_only (omega arith) (seen-is n (omega arith)) (record {
-    found = λ a. T→eq _ ((least-is n p).found a);
-    where_not = λ a. omega (arith, (least-is n p).within);
-    none_before = λ j a b. false_of n p j ((least-is n p).first j a);
+  seen_all = seen_only (omega arith) (seen_is n (omega arith)) (record {
+    found = λ a. T→eq _ ((least_is n p).found a);
+    where_not = λ a. omega (arith, (least_is n p).within);
+    none_before = λ j a b. false_of n p j ((least_is n p).first j a);
   })

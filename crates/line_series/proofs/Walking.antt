@@ -14,7 +14,7 @@ use Rattle.model.specs.Sizes.{resources_most}
 use Rattle.model.specs.Tests.{◌and◌, neg, least, given, ◌else◌}
 use Rattle.model.specs.Divisor.{gcd}
 use Rattle.model.proofs.Divisor.{gcd_step, gcd-zero}
-use Rattle.model.proofs.Tests.{eq→T, least-is, least_at, not_neg}
+use Rattle.model.proofs.Tests.{eq→T, least_is, least_at, not_neg}
 use Rattle.num_divisor.specs.Common.{Cycle, Common}
 use Rattle.file_line.specs.Parts.{Is}
 use Rattle.plan.specs.Plan.{cycle_in, port_in, out_in, sent_in}
@@ -23,7 +23,7 @@ use Rattle.line_series.specs.Judging.{seen, noted, Held, agrees_of, covers_of, m
 use Rattle.line_series.specs.declared.Met.{Met}
 use Rattle.model.specs.declared.Answer.TheVariants.{Unserved, Partly, Twice, Astray}
 use Rattle.line_chains.proofs.Chains.{T_false, Next}
-use Rattle.line_series.proofs.Seeing.{Seen, seen-is, seen_none, seen-over, seen_first, seen-before, seen_all}
+use Rattle.line_series.proofs.Seeing.{Seen, seen_is, seen_none, seen-over, seen_first, seen-before, seen_all}
 
 -- ---- a line against a series: period and slot are what was read of it
 
@@ -74,14 +74,14 @@ module _ (n before m : ℕ) (meets wanted : Bool) where
 module _ (n : ℕ) (p : ℕ → Bool) where
   -- where none was seen
   none_seen : (m : ℕ) → m < n → n ≤ seen n p m → seen n p m ≡ n
-  none_seen m h l = (seen-is n p m (omega arith)).where_not (omega arith)
+  none_seen m h l = (seen_is n p m (omega arith)).where_not (omega arith)
 
   some-seen : (m : ℕ) → m < n → seen n p m < n → seen n p m < m
   some-seen m h l = pick (dec_lt (seen n p m) m)
     where
       pick : Dec (seen n p m < m) → seen n p m < m
       pick (yes a) = a
-      pick (no a) = let e = (seen-is n p m (omega arith)).where_not (omega arith) in absurd (omega arith)
+      pick (no a) = let e = (seen_is n p m (omega arith)).where_not (omega arith) in absurd (omega arith)
 
   seen_next : (m : ℕ) → m < n → seen n p (suc m) ≡ noted n (seen n p m) m (p m)
   seen_next m h = pick (p m) refl (dec_lt (seen n p m) n)
@@ -100,7 +100,7 @@ module _ (n : ℕ) (p : ℕ → Bool) where
   seen-behind m h = pick (dec_lt (seen n p m) n)
     where
       x : Seen n p m (seen n p m)
-      x = seen-is n p m (omega arith)
+      x = seen_is n p m (omega arith)
 
       f : (j : ℕ) → p j ≡ false → T (p j) → ⊥
       f j e = T_false (p j) e
@@ -113,7 +113,7 @@ module _ (n : ℕ) (p : ℕ → Bool) where
       pick (no l) = le-ltb _ n (omega arith) ∙ sym (le-ltb _ m (go (dec_lt (least n p) m)))
         where
           go : Dec (least n p < m) → m ≤ least n p
-          go (yes a) = absurd (f (least n p) (x.none_before (least n p) (omega arith) a) ((least-is n p).found (omega arith)))
+          go (yes a) = absurd (f (least n p) (x.none_before (least n p) (omega arith) a) ((least_is n p).found (omega arith)))
           go (no a) = omega arith
 
 -- ---- the walk over the lines of a port

@@ -14,7 +14,7 @@ use lib.Dec.{ltb, eqb}
 use Rattle.line_chains.proofs.Linking.{at_first, at_next}
 use Rattle.model.specs.Sizes.{resources_most}
 use Rattle.model.specs.Tests.{◌and◌, neg, ◌∈◌, least, given, ◌else◌}
-use Rattle.model.proofs.Tests.{eq→T, least-is, least_at}
+use Rattle.model.proofs.Tests.{eq→T, least_is, least_at}
 use Rattle.num_divisor.specs.Common.{Cycle, Common}
 use Rattle.num_mask.specs.Bits.{bit, offsets, Marked, Lowest}
 use Rattle.num_mask.proofs.Laws.{bit-none, marked_kept, marked_new, offsets_in, offsets-zero}
@@ -194,7 +194,7 @@ module _ (t : List ℕ) (lines port cycle after out mask : ℕ) where
   none_of p clear = le-ltb _ lines (go (dec_lt (least lines p) lines))
     where
       go : Dec (least lines p < lines) → lines ≤ least lines p
-      go (yes l) = absurd (T_false (p (least lines p)) (clear (least lines p) l) ((least-is lines p).found l))
+      go (yes l) = absurd (T_false (p (least lines p)) (clear (least lines p) l) ((least_is lines p).found l))
       go (no l) = omega arith
 
   module _ (a : ℕ) (o : Once a lines) where

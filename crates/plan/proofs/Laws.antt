@@ -51,16 +51,16 @@ module _ {q : Request} {p : List ℕ} (s : Stands q p) {c : ℕ} (h : c < circui
   unfolding circuit_in planned
   send_count_is = sym (length-up_to (send_count p c) (send_in p c)) ∙ ap (λ (x : CircuitPlan). length x.sends) (s.each c h) ∙ length-up_to (hops (circuit_of q c)) _
 
-  pub send-is : (j : ℕ) → j < send_count p c → send_in p c j ≡ send q.network (circuit_of q c) j
+  pub send_is : (j : ℕ) → j < send_count p c → send_in p c j ≡ send q.network (circuit_of q c) j
   unfolding circuit_in planned
-  send-is j l =
+  send_is j l =
       let none : Send = record { router = 0; inp = 0; out = 0; after = 0 } in
       sym (get_or-up_to (send_count p c) (send_in p c) j none l) ∙ ap (λ (x : CircuitPlan). get_or x.sends j none) (s.each c h)
       ∙ get_or-up_to (hops (circuit_of q c)) _ j none (omega (arith, send_count_is))
 
   pub port_is : (j : ℕ) → j < send_count p c → port_in p c j ≡ port_of (send q.network (circuit_of q c) j).router (send q.network (circuit_of q c) j).inp
   unfolding send_in
-  port_is j l = ap (λ (x : Send). port_of x.router x.inp) (send-is j l)
+  port_is j l = ap (λ (x : Send). port_of x.router x.inp) (send_is j l)
 
   sent_low : (j : ℕ) → j < hops (circuit_of q c) → port_of (send q.network (circuit_of q c) j).router (send q.network (circuit_of q c) j).inp < resources_most
   unfolding send inport
@@ -71,11 +71,11 @@ module _ {q : Request} {p : List ℕ} (s : Stands q p) {c : ℕ} (h : c < circui
 
   router_is : (j : ℕ) → j < send_count p c → router_in p c j ≡ from_router q.network (hop (circuit_of q c) j)
   unfolding send_in send
-  router_is j l = ap (λ (x : Send). x.router) (send-is j l)
+  router_is j l = ap (λ (x : Send). x.router) (send_is j l)
 
   sent_is : (j : ℕ) → j < send_count p c → sent_in p c j ≡ after q.network (circuit_of q c) j
   unfolding send_in send
-  sent_is j l = ap (λ (x : Send). x.after) (send-is j l)
+  sent_is j l = ap (λ (x : Send). x.after) (send_is j l)
 
   fit : InBounds p c
   fit = record {
@@ -94,6 +94,6 @@ module _ {q : Request} {p : List ℕ} (s : Stands q p) {c : ℕ} (h : c < circui
 pub usable : {q : Request} {p : List ℕ} → Stands q p → Usable p
 usable s = record { few = omega (arith, s.many, s.sound.circuits); fit = λ c h. fit s h }
 
-pub booking-is : {q : Request} {assigned : List (List ℕ)} {p m : List ℕ} → Booked q assigned p m → {c : ℕ} → c < circuits_in p → booking_in p m c ≡ booking q assigned c
+pub booking_is : {q : Request} {assigned : List (List ℕ)} {p m : List ℕ} → Booked q assigned p m → {c : ℕ} → c < circuits_in p → booking_in p m c ≡ booking q assigned c
 unfolding booking_in booking circuit_in planned
-booking-is b {c} h = ap₂ (λ (x : CircuitPlan) (os : List ℕ). record { cycle = x.cycle; uses = x.uses; offsets = os }) (b.stands.each c h) (b.taken c h)
+booking_is b {c} h = ap₂ (λ (x : CircuitPlan) (os : List ℕ). record { cycle = x.cycle; uses = x.uses; offsets = os }) (b.stands.each c h) (b.taken c h)

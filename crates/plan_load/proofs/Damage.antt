@@ -14,9 +14,9 @@ use Rattle.file_records.specs.declared.Ending.TheVariants.{Whole, Stopped}
 use Rattle.file_records.proofs.Endings.{ends_stopped}
 use Rattle.plan_load.specs.Loaded.{damage_of, ByteFits}
 
-pub damage-is : (file : ℕ) (w : Walked) {e : Ending} → e ≡ ending_of w → damage_of file e ≡ damage file w
-damage-is file (complete l) h = rw h refl
-damage-is file (stopped f p) h = rw h refl
+pub damage_is : (file : ℕ) (w : Walked) {e : Ending} → e ≡ ending_of w → damage_of file e ≡ damage file w
+damage_is file (complete l) h = rw h refl
+damage_is file (stopped f p) h = rw h refl
 
 pub passed : (file : ℕ) (e : Ending) → damage_of file e ≡ none → e ≡ Whole
 passed file Whole h = refl

@@ -29,7 +29,7 @@ use Rattle.plan_refusal.specs.declared.Refusal.TheVariants.{Nothing}
 use Rattle.plan_refusal.proofs.Firsts.{nothing-none, told-some}
 use Rattle.plan_masks.specs.Masks.{Risings, MasksOf}
 use Rattle.plan_load.specs.Loaded.{damage_of, ByteFits, Opens, Loads, LoadsBoth}
-use Rattle.plan_load.proofs.Damage.{damage-is, passed, fits}
+use Rattle.plan_load.proofs.Damage.{damage_is, passed, fits}
 use Rattle.plan_load.proofs.Offsets.{rising_of, taken_of, below_of}
 
 pub ending_is : (w : Walked) {r : Places} → r ≡ places_of w → r.ending ≡ ending_of w
@@ -54,7 +54,7 @@ module _ (req p : List ℕ) (r : Places) (g : Opens req p r) where
   -- x is what is told of it
   module _ (x : Refusal) (e : found x ≡ damage_of request_file r.ending) where
     request-told : found x ≡ request_fault req
-    request-told = e ∙ damage-is request_file (request_walk req) (ending_is (request_walk req) g.places)
+    request-told = e ∙ damage_is request_file (request_walk req) (ending_is (request_walk req) g.places)
 
     request-whole : found x ≡ none → r.ending ≡ Whole
     request-whole n = passed request_file r.ending (sym e ∙ n)
@@ -96,7 +96,7 @@ module _ (req p : List ℕ) (r : Places) (g : Opens req p r) where
             unfolding ◌else◌
             both_told =
                 let fine : request_fault req ≡ none = sym request-told ∙ nothing-none x (sym be ∙ not-false b h) in
-                f ∙ damage-is assignment_file (assignment_walk Q asg) (ending_is (assignment_walk Q asg) ke) ∙ rw fine refl
+                f ∙ damage_is assignment_file (assignment_walk Q asg) (ending_is (assignment_walk Q asg) ke) ∙ rw fine refl
 
             module _ (d : Bool) (de : d ≡ nothing y) where
               pub assignment_refused : (m : List ℕ) → not d ≡ true → LoadsBoth req asg p m y

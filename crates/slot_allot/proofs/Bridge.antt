@@ -8,7 +8,7 @@ use native.Mathlib.Omega.{arith}
 use lib.ListN.{length, length-map}
 use Rattle.model.specs.Network.{Request, Circuit, no_circuit}
 use Rattle.model.specs.Search.{Walk, search, whole}
-use Rattle.model.proofs.Tests.{up_to_back, get_d_map}
+use Rattle.model.proofs.Tests.{up_to_back, get_or-map}
 use Rattle.model.proofs.SameSearch.{whole_same}
 use Rattle.plan.specs.Plan.{circuits_in, Stands}
 use Rattle.plan.proofs.Laws.{cycle_is, demand_is}
@@ -37,7 +37,7 @@ module _ {q : Request} {p : List ℕ} (s : Stands q p) where
       (up_to_back (map bare q.circuits) (pathless p) no_circuit (λ c h.
       let listed : c < circuits_in p = omega (arith, s.many) in
       let k : c < length q.circuits = omega arith in
-      rw (cycle_is s listed, demand_is s listed) (sym (get_d_map bare q.circuits c no_circuit no_circuit k))))
+      rw (cycle_is s listed, demand_is s listed) (sym (get_or-map bare q.circuits c no_circuit no_circuit k))))
 
   pub bridge : {grid : List ℕ} → Filled q (circuits_in p) grid → search (clash_in grid) (circuits p) [] ≡ whole q
   bridge {grid} right =

@@ -16,7 +16,7 @@ use Rattle.num_mask.specs.Bits.{bit, Marked}
 use Rattle.num_mask.proofs.Laws.{bit-none, marked_new, offsets-zero}
 use Rattle.num_cyclic.specs.Ahead.{ahead}
 use Rattle.plan.specs.Plan.{circuits_in, cycle_in, circuit_in, booking_in, Stands, Booked, Usable}
-use Rattle.plan.proofs.Laws.{cycle_is, booking-is}
+use Rattle.plan.proofs.Laws.{cycle_is, booking_is}
 use Rattle.clash_pair.specs.Differences.{Bad}
 use Rattle.clash_pair.proofs.Hitting.{bad_clash}
 use Rattle.slot_grid.specs.Table.{Barred, PairFilled, pair_at, clash_in, FilledFor, plan_clash, CircuitFilled}
@@ -123,7 +123,7 @@ clash_stands : {q : Request} {p : List ℕ} → Stands q p → {c e : ℕ} → c
 unfolding plan_clash clash_of
 clash_stands {q} {p} s hc he a b =
     let booked : Booked q [] p [] = record { stands = s; taken = λ c h. offsets-zero } in
-    rw (booking-is booked hc, booking-is booked he) refl
+    rw (booking_is booked hc, booking_is booked he) refl
 
 module _ {p : List ℕ} where
   pub grid_none : {grid : List ℕ} → GridFilled p 0 grid

@@ -30,12 +30,12 @@ assignment_room_lem p m =
     omega (arith, joined_length (circuits_in p) (part_of m), ap sum each)
 
 module _ {assigned : List (List ℕ)} {p m : List ℕ} (a : MasksFor assigned p m) where
-  pub assignment-is : assignment_bytes assigned ≡ parts p m ++ record_of end_kind []
+  pub assignment_is : assignment_bytes assigned ≡ parts p m ++ record_of end_kind []
   unfolding assignment_bytes
-  assignment-is =
+  assignment_is =
       let same : up_to (circuits_in p) (λ c. offsets (get_or m c 0)) ≡ assigned = rw (← a.each) (up_to_back assigned _ [] (λ c h. sym (a.taken c (omega (arith, a.each))))) in
       ap (λ l. joined l ++ record_of end_kind []) (ap (map (record_of offsets_kind)) (sym same) ∙ map-up_to (record_of offsets_kind) (circuits_in p) _)
 
   -- how long it is
   pub assignment_size_lem : length (assignment_bytes assigned) ≡ assignment_room p m
-  assignment_size_lem = omega (arith, ap length assignment-is, file_length (parts p m), assignment_room_lem p m)
+  assignment_size_lem = omega (arith, ap length assignment_is, file_length (parts p m), assignment_room_lem p m)

@@ -14,7 +14,7 @@ use Rattle.file_records.specs.declared.Places.{Places}
 use Rattle.plan_refusal.specs.Found.{found}
 use Rattle.plan_refusal.specs.declared.Refusal.{Refusal}
 use Rattle.plan_load.specs.Loaded.{damage_of, ByteFits}
-use Rattle.plan_load.proofs.Damage.{damage-is, fits}
+use Rattle.plan_load.proofs.Damage.{damage_is, fits}
 use Rattle.plan_load.proofs.Loading.{ending_is}
 
 module _ (s : List ℕ) (r : Places) (e : r ≡ places_of (request_walk s)) where
@@ -23,4 +23,4 @@ module _ (s : List ℕ) (r : Places) (e : r ≡ places_of (request_walk s)) wher
 
   pub read_told : (x : Refusal) → found x ≡ damage_of request_file r.ending → (a : Answer) → a ≡ or_else (found x) Done → Contract (read s) a []
   unfolding read_request
-  read_told x h a is = record { answer = is ∙ ap (λ o. or_else o Done) (h ∙ damage-is request_file (request_walk s) (ending_is (request_walk s) e)); area = refl }
+  read_told x h a is = record { answer = is ∙ ap (λ o. or_else o Done) (h ∙ damage_is request_file (request_walk s) (ending_is (request_walk s) e)); area = refl }

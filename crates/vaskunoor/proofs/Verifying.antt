@@ -19,7 +19,7 @@ use Rattle.plan_refusal.specs.Found.{found}
 use Rattle.plan_refusal.specs.declared.Refusal.{Refusal}
 use Rattle.plan_refusal.specs.declared.Refusal.TheVariants.{Nothing, Told}
 use Rattle.plan_load.specs.Loaded.{damage_of, ByteFits, LoadsBoth}
-use Rattle.plan_load.proofs.Damage.{damage-is, fits}
+use Rattle.plan_load.proofs.Damage.{damage_is, fits}
 use Rattle.line_chains.specs.Chains.{Tabled}
 use Rattle.line_check.specs.Checks.{Facts}
 use Rattle.line_check.proofs.Standing.{lines_fit}
@@ -48,7 +48,7 @@ module _ (req asg p m : List ℕ) (x : Refusal) (g : LoadsBoth req asg p m x) (t
     -- z is what is told of it
     module _ (z : Refusal) (h : found z ≡ damage_of table_file d.ending) where
       table-told : table_fault (request req) tab ≡ found z
-      table-told = sym (h ∙ damage-is table_file (table_walk (request req).network tab) (ap (λ (y : Lined). y.ending) e))
+      table-told = sym (h ∙ damage_is table_file (table_walk (request req).network tab) (ap (λ (y : Lined). y.ending) e))
 
       verify_read : check_tables req asg tab ≡ or_else (found z else behind req asg tab) Done
       unfolding ◌else◌

@@ -1,7 +1,7 @@
 -- `slot_writer::write_assignment` meets its contract. Each turn lays in one record, and the end record comes last. Assumes nothing.
 use Rattle.file_writer.proofs.Rest.{rest_start, part_room, part_more}
 use Rattle.file_writer.proofs.Files.{end_room, end_laid}
-use Rattle.slot_writer.proofs.Files.{assignment_room_lem, assignment-is}
+use Rattle.slot_writer.proofs.Files.{assignment_room_lem, assignment_is}
 use native.Mathlib.Omega.{arith}
 use Rattle.slot_writer.proofs.write_assignment.Goals as goal
 
@@ -18,4 +18,4 @@ pub put_end-requires : goal.put_end-requires
 put_end-requires c = end_room _ _ c.loop-c.c c.loop-c.invariant.1 (omega arith) (omega (arith, assignment_room_lem c.args.p.now c.args.m.now))
 
 pub returns : goal.returns
-returns c = record { wrote = λ assigned a. rw (assignment-is a) (end_laid _ _ c.loop-c.c c.loop-c.invariant.1 (omega arith) c.put_end.ensures) }
+returns c = record { wrote = λ assigned a. rw (assignment_is a) (end_laid _ _ c.loop-c.c c.loop-c.invariant.1 (omega arith) c.put_end.ensures) }
