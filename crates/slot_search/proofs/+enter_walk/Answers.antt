@@ -76,7 +76,7 @@ walk-returns-then-left-eq0 t c =
     let i = passed c.loop-a.invariant c.cycle-cycle.ensures c.demand-demand.ensures c.next_cell-next.ensures c.if-left-next.false in
     let in_cycle = inside c.loop-a.invariant c.cycle-cycle.ensures c.demand-demand.ensures c.next_cell-next.ensures c.if-a-cycle.false in
     let one_more = wanted c.loop-a.invariant c.cycle-cycle.ensures c.demand-demand.ensures c.next_cell-next.ensures c.if-a-cycle.false in
-    out_spent i in_cycle one_more c.if-shut-a-eq0.true c.if-left-eq0.true
+    out_spent i in_cycle one_more (omega (arith, c.if-shut-a-eq0.true)) (omega (arith, c.if-left-eq0.true))
 
 pub walk-walk-tried-requires : goal.walk-walk-tried-requires
 walk-walk-tried-requires t c =
