@@ -1,4 +1,4 @@
--- What was read stands at the front of the area, and each turn leaves less of it.
+-- What was read stands at the front of the area, and each turn leaves less of it. Assumes nothing.
 use Rattle.std.proofs.Common.{◌-◌, ◌≤◌, length, take}
 use Rattle.std.specs.Io.KnownBytes.{Consumes}
 use Rattle.book.proofs.read_full.Given as goal
