@@ -46,9 +46,9 @@ typedef size_t vaskunoor_size;
 #define VASKUNOOR_TABLE_MOST 49156
 
 /* The stack that a call takes at most, in bytes, and at least a quarter more: what was measured on x86-64, aarch64 and riscv64, on files
- * of full size and on refused ones, with the most of the three told here. The first memcpy or memset of a program that is linked
- * dynamically took 3,168 bytes more, for the linker to find it; that is in the constants too. On wasm32 they hold for the stack in linear
- * memory. */
+ * of full size and on refused ones, with the most of the three told here. The compiler was that of an earlier kit; with every kit
+ * tests/archive tries each call on just its constant. The first memcpy or memset of a program that is linked dynamically took 3,168 bytes
+ * more, for the linker to find it; that is in the constants too. On wasm32 they hold for the stack in linear memory. */
 #define VASKUNOOR_READ_STACK 8192              /* measured: 968 */
 #define VASKUNOOR_ALLOCATE_STACK 491520        /* measured: 391,280, with 32 circuits that ask for all of their 32 slots */
 #define VASKUNOOR_CHECK_ASSIGNMENT_STACK 16384 /* measured: 9,608 */

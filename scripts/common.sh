@@ -63,8 +63,9 @@ are_built() {
 
 # rattle_on COMMAND CRATE FOLDER WORDS..: `rattle COMMAND` over the text of CRATE that stands in FOLDER, and over the libraries that are built
 rattle_on() {
-    command=$1 crate=$2 folder=$3
+    command=$1 crate=$2 folder=$3 root=src/lib.rt
     shift 3
+    [ ! -f "$folder/src/main.rt" ] || root=src/main.rt
     for name in $(below "$crate"); do
         set -- -L "dependency=$(dirname "$(library "$name")")" "$@"
     done
@@ -76,7 +77,7 @@ rattle_on() {
         fi
     done
     set -- --antt-project "$(kit)/rattle/logic/antt-project.json" --logic-built "$(kit)/logic_built" -L "dependency=$(kit)/rlibs" "$@"
-    (cd "$folder" && "$(kit)/bin/rattle" "$command" --crate-name "$crate" src/lib.rt "$@")
+    (cd "$folder" && "$(kit)/bin/rattle" "$command" --crate-name "$crate" "$root" "$@")
 }
 
 # replace_once FILE OLD NEW: fails where OLD is not there exactly once

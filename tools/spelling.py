@@ -23,7 +23,7 @@ RESERVED = {"in", "as", "data", "open", "record", "ruleset", "where", "module", 
 PLAIN = {"is", "miss"}
 # by hand: names that the library spells anew, and lemmas that would have the name of their function
 GIVEN = {"getD": "get_or"}
-LEMMAS = {"get_d_map": "get_or-map", "no_room": "no_room_lem", "send_at": "send_at_lem", "too_short": "too_short_lem"}
+LEMMAS = {"no_room": "no_room_lem", "send_at": "send_at_lem", "too_short": "too_short_lem"}
 
 
 def texts(*ends):

@@ -13,7 +13,7 @@ use Rattle.model.specs.Search.{Reply, slots, full, unfinished, reply, whole}
 use Rattle.model.specs.Reading.{request}
 use Rattle.model.specs.Jobs.{allot, allocate, settled, assignment_size, assignment_bytes}
 use Rattle.model.specs.declared.Answer.TheVariants.{Allocated, NoRoom, Unfinished, Short}
-use Rattle.model.proofs.Tests.{get_or-map}
+use Rattle.std.proofs.lemmas.List.{get_or-map}
 use Rattle.model.proofs.Searching.{given_fits, reply_slots}
 use Rattle.model.proofs.Writes.{assignment-length}
 use Rattle.model.proofs.Files.{short_none}

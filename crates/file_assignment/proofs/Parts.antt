@@ -13,7 +13,7 @@ use Rattle.model.specs.Holding.{offsets_of}
 use Rattle.model.specs.Reading.{have, starts, offsets_verdict, assignment_walk, offsets_at, assignment}
 use Rattle.model.specs.Jobs.{assignment_fault}
 use Rattle.model.specs.declared.Verdict.TheVariants.{Fine}
-use Rattle.model.proofs.Tests.{get_or-map}
+use Rattle.std.proofs.lemmas.List.{get_or-map}
 use Rattle.model.proofs.Readers.{offsets_free, offsets_tests_lem, offsets_sound}
 use Rattle.file_records.specs.Fields.{places_of}
 use Rattle.file_records.specs.declared.Ending.TheVariants.{Whole}

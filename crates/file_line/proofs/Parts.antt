@@ -13,7 +13,8 @@ use Rattle.model.specs.Lines.{line_of, no_line}
 use Rattle.model.specs.Sound.{SoundLine}
 use Rattle.model.specs.Reading.{Walked, complete, stopped, starts, line_verdict, table_step, table_walk, line_at, table}
 use Rattle.model.specs.declared.Step.TheVariants.{Next}
-use Rattle.model.proofs.Tests.{same, get_or-map}
+use Rattle.model.proofs.Tests.{same}
+use Rattle.std.proofs.lemmas.List.{get_or-map}
 use Rattle.model.proofs.Records.{Row, Comes, walk_comes, Passes, step_says}
 use Rattle.model.proofs.Readers.{line_tests_lem, table_sound}
 use Rattle.file_line.specs.Parts.{line_start, LineIn}

@@ -15,7 +15,8 @@ use Rattle.model.specs.Network.{Circuit, circuit_of, no_circuit, hops, hop}
 use Rattle.model.specs.Reading.{from_place, path_place, have, starts, buffers_of, hops_at, hop_at, circuit_at, circuit_verdict, request_walk, request}
 use Rattle.model.specs.Jobs.{request_fault}
 use Rattle.model.specs.declared.Verdict.TheVariants.{Fine}
-use Rattle.model.proofs.Tests.{get_or-map, get_or-up_to, length-up_to}
+use Rattle.model.proofs.Tests.{get_or-up_to, length-up_to}
+use Rattle.std.proofs.lemmas.List.{get_or-map}
 use Rattle.model.specs.Sound.{SoundPath}
 use Rattle.model.proofs.Readers.{buffers_are, from_is, circuit_tests_lem, request_free, request_sound}
 use Rattle.file_records.specs.Fields.{Byte, Word}

@@ -8,7 +8,8 @@ use native.Mathlib.Omega.{arith}
 use lib.ListN.{length, length-map}
 use Rattle.model.specs.Network.{Request, Circuit, no_circuit}
 use Rattle.model.specs.Search.{Walk, search, whole}
-use Rattle.model.proofs.Tests.{up_to_back, get_or-map}
+use Rattle.model.proofs.Tests.{up_to_back}
+use Rattle.std.proofs.lemmas.List.{get_or-map}
 use Rattle.model.proofs.SameSearch.{whole_same}
 use Rattle.plan.specs.Plan.{circuits_in, Stands}
 use Rattle.plan.proofs.Laws.{cycle_is, demand_is}
