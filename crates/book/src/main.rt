@@ -103,8 +103,7 @@ fn make<W: Write>(
 
 fn show<W: Write>(out: &mut W, area: &[u8], size: u32, visits: u32) -> io::Result<()> {
     let written = area.len().min(size as usize);
-    tool_say::counted(out, b"done visits ", visits as usize)?;
-    tool_say::counted(out, b" lines ", tool_say::line_count(written))?;
-    tool_say::text(out, b"\n")?;
+    let lines = tool_say::line_count(written);
+    writeln!(out, "done visits {visits} lines {lines}")?;
     tool_say::lines(out, &area[..written])
 }

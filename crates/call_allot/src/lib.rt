@@ -6,7 +6,7 @@ ghost use Rattle.call_allot.specs.Allot.{Loaded, Allots};
 
 use model::{Answer, CIRCUITS_MOST};
 use plan::Plan;
-use slot_search::Allotted;
+use slot_search::{Outcome, Spent};
 
 pub fn allot(p: &Plan, budget: u32, assignment: &mut [u8]) -> Answer
     requires { Loaded p.now }
@@ -19,11 +19,11 @@ pub fn allot(p: &Plan, budget: u32, assignment: &mut [u8]) -> Answer
     }
     let mut masks = [0u32; CIRCUITS_MOST];
     match slot_allot::search_slots(p, budget, &mut masks) {
-        Allotted::Done(visits) => {
-            slot_writer::write_assignment(p, &masks, assignment);
+        Ok(Outcome::Found(visits)) => {
+            slot_writer::write_assignment(&masks[..p.len()], assignment);
             Answer::Allocated { visits, bytes }
         }
-        Allotted::Full(visits) => Answer::NoRoom { visits },
-        Allotted::Unfinished => Answer::Unfinished { visits: budget },
+        Ok(Outcome::NoRoom(visits)) => Answer::NoRoom { visits },
+        Err(Spent) => Answer::Unfinished { visits: budget },
     }
 }

@@ -1,51 +1,30 @@
 -- What the making of a table comes to, one law for each way out of it. Assumes nothing.
-use Prim.Native.Nat.{ℕ, zero, suc, ◌+◌, ◌*◌, ◌≤◌, ◌<◌}
-use mathlib.Core.Path.{◌≡◌, refl, sym, ap, ◌∙◌}
-use mathlib.Core.List.{List}
-use mathlib.Core.Option.{none}
-use native.Mathlib.Numerals.{add-one}
-use native.Mathlib.Omega.{arith}
-use lib.ListN.{length, get_or}
+use Rattle.std.proofs.Common.{ℕ, ◌≤◌, ◌<◌, ◌≡◌, List, length, Ok, Err, refl, sym, ap, ◌∙◌}
+use Rattle.std.proofs.Math.Option.{none}
 use borrow.Author.Tests.{lt-ltb, le-ltb}
-use Rattle.model.specs.Sizes.{cycle_most, hops_most, head_size, line_size, detail_end}
-use Rattle.model.specs.Tests.{up_to, sum, given, ◌else◌}
+use Rattle.arrayvec.specs.ArrayVec.{ArrayVec}
+use Rattle.model.specs.Tests.{given, ◌else◌}
 use Rattle.model.specs.Network.{Request}
 use Rattle.model.specs.Holding.{clash_fault}
 use Rattle.model.specs.declared.Answer.{Answer}
 use Rattle.model.specs.declared.Answer.TheVariants.{Made, Short}
-use Rattle.plan.specs.Plan.{circuits_in, Usable, Booked}
-use Rattle.plan_refusal.specs.Found.{found}
-use Rattle.plan_refusal.specs.declared.Refusal.{Refusal}
-use Rattle.plan_refusal.specs.declared.Refusal.TheVariants.{Nothing, Told}
+use Rattle.plan.specs.declared.Circuit.{Circuit}
+use Rattle.plan.specs.Plan.{Booked}
+use Rattle.plan_refusal.specs.Found.{Tested, found}
 use Rattle.clash_first.specs.First.{FirstIs}
-use Rattle.file_writer.proofs.Lists.{sum_more}
-use Rattle.line_maker.specs.Files.{lines_size, table_size, WroteTable}
-use Rattle.line_maker.proofs.Sizes.{circuit_few}
+use Rattle.line_maker.specs.Files.{table_size, WroteTable}
 use Rattle.line_maker.proofs.Tables.{table_size_lem}
 use Rattle.call_make.specs.Make.{table_of, Makes}
 
--- ---- the table is short
-
-module _ {p : List ℕ} (usable : Usable p) (m : List ℕ) where
-  lines_few : (n : ℕ) → n ≤ circuits_in p → sum (up_to n (lines_size p m)) ≤ n * (cycle_most * hops_most * (head_size + line_size))
-  unfolding sum up_to
-  lines_few zero h = omega arith
-  lines_few (suc n) h =
-      omega (arith, rw (add-one n) at (sum_more n (lines_size p m)), lines_few n (omega arith), circuit_few (usable.fit n (omega arith)) (get_or m n 0) refl refl)
-
-  pub needed_fits : (needed : ℕ) → needed ≡ table_size p m → needed < detail_end
-  unfolding table_size
-  needed_fits needed e = omega (arith, e, usable.few, lines_few (circuits_in p) (omega arith))
-
 -- ---- y is the first clash
 
-module _ (p m : List ℕ) (y : Refusal) (first : FirstIs p m y) where
-  pub make_clash : (old : List ℕ) (a : Answer) → y ≡ Told a → Makes p m old a old
+module _ (p : ArrayVec Circuit) (m : List ℕ) (y : Tested) (first : FirstIs p m y) where
+  pub make_clash : (old : List ℕ) (a : Answer) → y ≡ Err a → Makes p m old a old
   unfolding ◌else◌
   make_clash old a h = record { is = λ q assigned b. rw (sym (first q assigned b) ∙ ap found h) refl }
 
   -- there is none, and so many bytes are needed
-  module _ (n : y ≡ Nothing) (needed : ℕ) (e : needed ≡ table_size p m) where
+  module _ (n : y ≡ Ok tt) (needed : ℕ) (e : needed ≡ table_size p m) where
     module _ {q : Request} {assigned : List (List ℕ)} (b : Booked q assigned p m) where
       clear : clash_fault q assigned ≡ none
       clear = sym (first q assigned b) ∙ ap found n

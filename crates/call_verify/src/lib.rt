@@ -2,24 +2,25 @@
 // found is handed on as it is. Assumes nothing.
 #![tactic(auto)]
 
-ghost use Rattle.plan.specs.Plan.{Slotted};
 ghost use Rattle.line_chains.specs.Chains.{Tabled};
 ghost use Rattle.call_verify.specs.Verify.{FaultIs};
 
-use line_chains::CHAINS_SIZE;
-use plan::{Masks, Plan};
-use plan_refusal::Refusal;
+use clash_first::first_clash;
+use line_chains::{Chains, Table};
+use plan::Bookings;
+use plan_refusal::Tested;
 
-pub fn verify(p: &Plan, m: &Masks, t: &[u8], lines: usize) -> Refusal
-    requires slotted { Slotted p.now m.now }
-    requires tabled { Tabled t.now lines }
-    ensures { FaultIs p.now m.now t.now lines result }
+pub fn verify(b: &Bookings, bytes: &[u8], lines: usize) -> Tested
+    requires { Tabled bytes.now lines }
+    ensures { FaultIs b.now.plan.now b.now.masks.now bytes.now lines result }
 {
-    let r = clash_first::first_clash(p, m);
-    if !plan_refusal::is_nothing(r) {
-        return r;
-    }
-    let mut ch = [0u16; CHAINS_SIZE];
-    line_chains::link(t, lines, &mut ch);
-    line_check::check(p, m, t, &ch)
+    first_clash(b)?;
+    let mut chains = Chains::default();
+    chains.link(bytes, lines);
+    let table = Table {
+        bytes,
+        lines,
+        chains: &chains,
+    };
+    line_check::check(b, &table)
 }

@@ -1,18 +1,18 @@
 -- Where a plan first clashes: what loops over pairs, slots and resources have passed. Assumes nothing.
 use Prim.Native.Nat.{ℕ, zero, ◌+◌, ◌*◌, ◌≤◌, ◌<◌}
-use mathlib.Core.Path.{◌≡◌, refl, sym, ◌∙◌}
+use mathlib.Core.Path.{◌≡◌, refl, sym, subst, ◌∙◌}
 use mathlib.Core.Logic.{◌⊎◌, inl, inr, ◌≢◌}
-use mathlib.Core.Bool.{Bool, true, false, not}
+use mathlib.Core.Bool.{Bool, true, false}
 use mathlib.Core.List.{List}
 use mathlib.Core.Option.{none, some}
 use native.Mathlib.Omega.{arith}
 use native.Mathlib.Decide.{dec_lt}
-use borrow.Author.Tests.{not-true}
 use lib.ListN.{length}
 use lib.Dec.{T}
 use Rattle.model.specs.Sizes.{resources_most}
 use Rattle.model.specs.Tests.{◌∈◌}
-use Rattle.model.specs.Network.{Request, Use}
+use Rattle.model.specs.Network.{Request}
+use Rattle.model.specs.declared.Use.{Use}
 use Rattle.model.specs.Holding.{Booking, Holds, Clash, FirstClash, booking, both?, clashes?, clash_fault}
 use Rattle.model.specs.declared.Answer.TheVariants.{Clash as ClashAnswer}
 use Rattle.model.proofs.Tests.{eq→T, and→, →and}
@@ -20,9 +20,10 @@ use Rattle.model.proofs.Divisor.{wrap}
 use Rattle.model.proofs.Clashing.{holds→, →holds, →clashes, turned, Holds_at}
 use Rattle.model.proofs.Sound.{uses_small}
 use Rattle.model.proofs.Checking.{clash_none, clash_first}
-use Rattle.plan.specs.Plan.{circuits_in, booking_in, Booked, InBounds}
+use Rattle.arrayvec.specs.ArrayVec.{ArrayVec}
+use Rattle.plan.specs.declared.Circuit.{Circuit}
+use Rattle.plan.specs.Plan.{circuits_in, booking_in, Booked}
 use Rattle.plan.proofs.Laws.{booking_is}
-use Rattle.clash_held.specs.Held.{SlotsOf}
 
 -- ---- two circuits
 
@@ -40,26 +41,6 @@ within : {p : Booking} → ((u : Use) → u ∈ p.uses → u.what < resources_mo
 within small h = rw (← h.same) (small h.by h.used)
 
 module _ {p q : Booking} where
-  pub whats_none : {t : ℕ} → ClearWhats p q t 0
-  whats_none = record { none = λ v h. absurd (omega arith) }
-
-  pub whats_more : {t w : ℕ} {b : Bool} → ClearWhats p q t w → b ≡ both? p q t w → b ≡ false → ClearWhats p q t (w + 1)
-  whats_more {t} {w} c is f = record { none = λ v h. pick v h (dec_lt v w) }
-    where
-      pick : (v : ℕ) → v < w + 1 → Dec (v < w) → both? p q t v ≡ false
-      pick v h (yes l) = c.none v l
-      pick v h (no l) = let s : v ≡ w = omega arith in rw s (sym is ∙ f)
-
-  pub slots_none : ClearSlots p q 0
-  slots_none = record { none = λ s h. absurd (omega arith) }
-
-  pub slots_more : {t w : ℕ} → ClearSlots p q t → ClearWhats p q t w → resources_most ≤ w → ClearSlots p q (t + 1)
-  slots_more {t} {w} c e all = record { none = λ s h. pick s h (dec_lt s t) }
-    where
-      pick : (s : ℕ) → s < t + 1 → Dec (s < t) → ClearWhats p q s resources_most
-      pick s h (yes l) = c.none s l
-      pick s h (no l) = let i : s ≡ t = omega arith in rw i (record { none = λ v k. e.none v (omega arith) })
-
   pub slots_all : {t : ℕ} → ClearSlots p q t → p.cycle * q.cycle ≤ t → ClearPair p q
   slots_all c all = record { none = λ s h. c.none s (omega arith) }
 
@@ -93,17 +74,6 @@ module _ {p q : Booking} where
           lowest = λ v k l r. never (cw.none v k) l r;
         }
 
--- ---- two circuits of a plan
-
-module _ (p m : List ℕ) (c e : ℕ) (fit-c : InBounds p c) (fit-e : InBounds p e) where
-  pub plan_skip : {b : Bool} → b ≡ clashes? (booking_in p m c) (booking_in p m e) → not b ≡ true → ClearPair (booking_in p m c) (booking_in p m e)
-  unfolding booking_in
-  plan_skip {b} is h = pair_skip {p = booking_in p m c} {q = booking_in p m e} fit-c.cycle.low fit-e.cycle.low (sym is ∙ not-true b h)
-
-  pub plan_all : {t x : ℕ} → ClearSlots (booking_in p m c) (booking_in p m e) t → SlotsOf p c e x → x ≤ t → ClearPair (booking_in p m c) (booking_in p m e)
-  unfolding booking_in
-  plan_all clear is all = slots_all {p = booking_in p m c} {q = booking_in p m e} clear (rw is.is at all)
-
 -- ---- all pairs
 
 -- the pairs of circuit i with those behind it and below j; and all pairs whose lower circuit is below i
@@ -114,18 +84,12 @@ pub record ClearLower (b : ℕ → Booking) (n i : ℕ) : Type 0 where
   pub none : (h : ℕ) → h < i → ClearHigher b h n
 
 module _ {b : ℕ → Booking} where
-  pub higher_none : {i j : ℕ} → j ≡ i + 1 → ClearHigher b i j
-  higher_none e = record { none = λ k h l. absurd (omega arith) }
-
-  pub higher_more : {i j : ℕ} → ClearHigher b i j → ClearPair (b i) (b j) → ClearHigher b i (j + 1)
-  higher_more {i} {j} c e = record { none = λ k h l. pick k h l (dec_lt k j) }
+  pub higher_more : {i j : ℕ} {p q : Booking} → ClearHigher b i j → p ≡ b i → q ≡ b j → ClearPair p q → ClearHigher b i (j + 1)
+  higher_more {i} {j} c left right e = record { none = λ k h l. pick k h l (dec_lt k j) }
     where
       pick : (k : ℕ) → i < k → k < j + 1 → Dec (k < j) → ClearPair (b i) (b k)
       pick k h l (yes m) = c.none k h m
-      pick k h l (no m) = let s : k ≡ j = omega arith in rw s e
-
-  pub lower_none : {n : ℕ} → ClearLower b n 0
-  lower_none = record { none = λ h l. absurd (omega arith) }
+      pick k h l (no m) = let s : k ≡ j = omega arith in rw (s, ← left, ← right) e
 
   pub lower_more : {n i j : ℕ} → ClearLower b n i → ClearHigher b i j → n ≤ j → ClearLower b n (i + 1)
   lower_more {n} {i} {j} c e all = record { none = λ h l. pick h l (dec_lt h i) }
@@ -136,7 +100,7 @@ module _ {b : ℕ → Booking} where
 
 -- ---- a plan
 
-module _ {q : Request} {assigned : List (List ℕ)} {p m : List ℕ} (b : Booked q assigned p m) where
+module _ {q : Request} {assigned : List (List ℕ)} {p : ArrayVec Circuit} {m : List ℕ} (b : Booked q assigned p m) where
   listed : {c : ℕ} → c < circuits_in p → c < length q.circuits
   listed h = rw b.stands.many at h
 
@@ -150,7 +114,9 @@ module _ {q : Request} {assigned : List (List ℕ)} {p m : List ℕ} (b : Booked
 
   -- the pairs that were passed do not clash
   apart : {c d : ℕ} → c < circuits_in p → d < circuits_in p → ClearPair (booking_in p m c) (booking_in p m d) → Clash (booking q assigned c) (booking q assigned d) → ⊥
-  apart hc hd clear = pair_apart (small hc) (positive hc) (positive hd) (rw (booking_is b hc, booking_is b hd) at clear)
+  apart {c} {d} hc hd clear =
+      pair_apart (small hc) (positive hc) (positive hd)
+      (subst (λ x. ClearPair x (booking q assigned d)) (booking_is b hc) (subst (λ y. ClearPair (booking_in p m c) y) (booking_is b hd) clear))
 
   pub nowhere : {n i : ℕ} → ClearLower (booking_in p m) n i → n ≤ i → n ≡ circuits_in p → none ≡ clash_fault q assigned
   nowhere {n} {i} lower all is = sym ((clash_none q b.stands.sound assigned).1 (record {
@@ -169,14 +135,13 @@ module _ {q : Request} {assigned : List (List ℕ)} {p m : List ℕ} (b : Booked
               pick' (yes l) = l
               pick' (no l) = absurd (ne (omega arith))
 
-  pub somewhere : {n i j t w : ℕ} {r : Bool} → ClearLower (booking_in p m) n i → ClearHigher (booking_in p m) i j → ClearSlots (booking_in p m i) (booking_in p m j) t
-      → ClearWhats (booking_in p m i) (booking_in p m j) t w → n ≡ circuits_in p → i < j → j < n → r ≡ both? (booking_in p m i) (booking_in p m j) t w → r ≡ true
-      → some (ClashAnswer i j t w) ≡ clash_fault q assigned
-  somewhere {n} {i} {j} {t} {w} ci cj ct cw is order below both e =
+  pub somewhere : {n i j t w : ℕ} {x y : Booking} → ClearLower (booking_in p m) n i → ClearHigher (booking_in p m) i j → x ≡ booking_in p m i → y ≡ booking_in p m j
+      → ClearSlots x y t → ClearWhats x y t w → n ≡ circuits_in p → i < j → j < n → both? x y t w ≡ true → some (ClashAnswer i j t w) ≡ clash_fault q assigned
+  somewhere {n} {i} {j} {t} {w} {x} {y} ci cj left right ct cw is order below both =
       sym ((clash_first q b.stands.sound assigned i j t w).1 (record {
         order = order;
         listed = listed hj;
-        first = rw (booking_is b hi, booking_is b hj) at first;
+        first = rw (left ∙ booking_is b hi, right ∙ booking_is b hj) at first;
         sooner = λ c d k h x cl. sooner k (rw b.stands.many h) x cl;
       }))
     where
@@ -186,8 +151,8 @@ module _ {q : Request} {assigned : List (List ℕ)} {p m : List ℕ} (b : Booked
       hi : i < circuits_in p
       hi = omega arith
 
-      first : FirstClash (booking_in p m i) (booking_in p m j) t w
-      first = pair_first (rw (booking_is b hi) (small hi)) ct cw (sym both ∙ e)
+      first : FirstClash x y t w
+      first = pair_first (rw (left ∙ booking_is b hi) (small hi)) ct cw both
 
       sooner : {c d : ℕ} → c < d → d < circuits_in p → (c < i) ⊎ ((c ≡ i) × (d < j)) → Clash (booking q assigned c) (booking q assigned d) → ⊥
       sooner {c} {d} k h (inl x) cl = apart (omega arith) h ((ci.none c x).none d k (omega arith)) cl

@@ -1,33 +1,31 @@
 // Where a plan first clashes. Assumes nothing.
 #![tactic(auto)]
 
-ghost use Rattle.plan.specs.Plan.{Slotted};
 ghost use Rattle.clash_first.specs.First.{FirstIs};
 
-use clash_sets::SETS_SIZE;
 use model::{Answer, RESOURCES_MOST};
-use plan::{Masks, Plan};
-use plan_refusal::Refusal;
+use plan::Bookings;
+use plan_refusal::Tested;
 
-// The first clash of the circuits with the offsets of their masks: by the lower circuit, the higher, the slot and the resource.
-pub fn first_clash(p: &Plan, m: &Masks) -> Refusal
-    requires { Slotted p.now m.now }
-    ensures { FirstIs p.now m.now result }
+// The first clash of the circuits with the offsets that they have taken: by the lower circuit, the higher, the slot and the resource.
+pub fn first_clash(b: &Bookings) -> Tested
+    ensures { FirstIs b.now.plan.now b.now.masks.now result }
 {
-    let n = plan::circuits(p);
-    let mut sets = [0u32; SETS_SIZE];
-    clash_sets::collect_all(p, &mut sets);
-    let mut answer = Refusal::Nothing;
+    let n = b.len();
+    let sets = clash_sets::of_all(b.plan);
+    let mut answer = Ok(());
     'found: for i in 0..n {
+        let lower = b.of(i);
         for j in i + 1..n {
-            if !clash_held::clashes_by_sets(&sets, p, m, i, j) {
+            let higher = b.of(j);
+            if !clash_held::clashes_by_sets(&sets[i], &sets[j], &lower, &higher) {
                 continue;
             }
-            let slots = clash_held::slots_of(p, i, j);
+            let slots = clash_held::slots_of(lower.circuit.cycle, higher.circuit.cycle);
             for t in 0..slots {
                 for w in 0..RESOURCES_MOST {
-                    if clash_held::both_hold(p, m, i, j, t, w) {
-                        answer = Refusal::Told(Answer::Clash {
+                    if clash_held::both_hold(&lower, &higher, t, w) {
+                        answer = Err(Answer::Clash {
                             lower: i as u32,
                             higher: j as u32,
                             slot: t as u32,

@@ -1,39 +1,36 @@
 -- Circuits whose sets of resources are apart never clash. Assumes nothing.
-use Prim.Native.Nat.{ℕ, zero, ◌/◌, ◌%◌, ◌<◌}
-use mathlib.Core.Path.{◌≡◌, sym, ap, ◌∙◌}
-use mathlib.Core.Bool.{false}
-use mathlib.Core.List.{List}
+use Prim.Native.Nat.{ℕ, ◌≤◌}
+use mathlib.Core.Path.{◌≡◌}
+use mathlib.Core.Bool.{true, false}
+use mathlib.Core.List.{List, [], ◌∷◌}
+use mathlib.Core.List.Memᴰ
+use mathlib.Core.Logic.{◌⊎◌, inl, inr}
 use native.Mathlib.Omega.{arith}
 use lib.Dec.{T}
+use Rattle.std.specs.List.{All}
+use Rattle.std.proofs.lemmas.List.Elements.{All-tail}
+use Rattle.model.specs.Tests.{◌∈◌}
+use Rattle.model.specs.declared.Use.{Use}
 use Rattle.model.specs.Holding.{Booking, Holds, Clash, clashes?}
-use Rattle.model.proofs.Tests.{up_to→, bool_same}
+use Rattle.model.proofs.Tests.{bool_same}
 use Rattle.model.proofs.Clashing.{clashes→}
-use Rattle.plan.specs.Plan.{use_count, what_in, use_in, booking_in, InBounds}
-use Rattle.clash_sets.specs.Sets.{word_bits, set_words, InSet, Collected, Apart}
-use Rattle.clash_sets.proofs.Sets.{no_common}
+use Rattle.clash_sets.specs.Sets.{InSet, Collected, apart?}
+use Rattle.clash_sets.proofs.Sets.{apart_none}
 
 -- what a circuit holds is in its set
-held_in : (p m : List ℕ) (c : ℕ) {sets : List ℕ} → Collected p sets c (use_count p c) → {t w : ℕ} → Holds (booking_in p m c) t w → InSet sets c w
-unfolding booking_in use_in
-held_in p m c s {t} {w} h =
-    let i = up_to→ (use_count p c) (use_in p c) h.by h.used in
-    let is : what_in p c i.0 ≡ w = sym (ap (λ u. u.what) i.2) ∙ h.same in
-    rw is at (s.at i.0 i.1)
-
-pub apart_never : (p m : List ℕ) (c e : ℕ) {sets : List ℕ} → InBounds p c → InBounds p e → Collected p sets c (use_count p c) → Collected p sets e (use_count p e)
-    → Apart sets c e set_words → clashes? (booking_in p m c) (booking_in p m e) ≡ false
-unfolding booking_in
-apart_never p m c e {sets} fc fe sc se apart = bool_same _ _ (λ t. never (clashes→ P Q (positive c fc) (positive e fe) t)) (λ t. absurd t)
+held_in : {p : Booking} {words : List ℕ} {t w : ℕ} → Collected p.uses words → Holds p t w → InSet words w
+held_in {p} {words} c h = rw h.same at (go p.uses c.all h.used)
   where
-    P : Booking
-    P = booking_in p m c
+    go : (l : List Use) {u : Use} → All (λ u. InSet words u.what) l → u ∈ l → InSet words u.what
+    go [] a m = absurd (Memᴰ.not-nil m)
+    go (x ∷ l) {u} a m = either (Memᴰ.cases_cons m) (λ k. go l (All-tail (λ v. InSet words v.what) x l a) k)
+      where
+        either : (u ≡ x) ⊎ (u ∈ l) → (u ∈ l → InSet words u.what) → InSet words u.what
+        either (inl e) later = rw e (a 0 x (omega arith))
+        either (inr k) later = later k
 
-    Q : Booking
-    Q = booking_in p m e
-
-    positive : (x : ℕ) → InBounds p x → zero < (booking_in p m x).cycle
-    positive x f = f.cycle.low
-
-    never : Clash P Q → T false
-    never x =
-        no_common _ _ _ (apart.none (x.what / word_bits % set_words) (omega arith)) (held_in p m c sc x.left).has (held_in p m e se x.right).has
+pub apart_never : (p q : Booking) {xs ys : List ℕ} → 1 ≤ p.cycle → 1 ≤ q.cycle → Collected p.uses xs → Collected q.uses ys → apart? xs ys ≡ true → clashes? p q ≡ false
+apart_never p q hp hq cp cq apart = bool_same _ _ (λ t. never (clashes→ p q hp hq t)) (λ t. absurd t)
+  where
+    never : Clash p q → T false
+    never x = apart_none apart (held_in cp x.left) (held_in cq x.right)

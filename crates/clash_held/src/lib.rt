@@ -1,64 +1,48 @@
-// Two circuits of a plan: whether they clash, and what they hold in a slot. Assumes nothing.
+// Two circuits: whether they clash, and what they hold in a slot. Assumes nothing.
 #![tactic(auto)]
 
-ghost use Rattle.std.specs.Prelude.{◌≡◌, ◌^◌, ◌<◌, get_or};
+ghost use Rattle.std.specs.Prelude.{◌≡◌};
 ghost use Rattle.model.specs.Holding.{holds?, both?, clashes?};
-ghost use Rattle.plan.specs.Plan.{cycle_in, use_count, booking_in, InBounds};
+ghost use Rattle.plan.specs.Bookings.{claim_of};
 ghost use Rattle.clash_sets.specs.Sets.{Collected};
 ghost use Rattle.clash_held.specs.Held.{SlotsOf};
 
-use clash_sets::Sets;
-use plan::{Masks, Plan};
+use clash_sets::Resources;
+use num_divisor::Cycle;
+use plan::Booking;
 
-// Whether circuit c holds w in slot t.
-fn holds(p: &Plan, m: &Masks, c: usize, t: usize, w: usize) -> bool
-    requires in_bounds { InBounds p.now c }
-    requires c_bound { get_or m.now c 0 < 2 ^ cycle_in p.now c }
-    ensures { result ≡ holds? (booking_in p.now m.now c) t w }
+// Whether a circuit holds w in slot t.
+fn holds(b: &Booking, t: usize, w: usize) -> bool
+    ensures { result ≡ holds? (claim_of b.now) t w }
 {
-    let d = plan::cycle(p, c);
-    let count = plan::uses(p, c);
-    for k in 0..count {
-        if plan::what(p, c, k) != w {
-            continue;
+    b.circuit.uses.iter().any(|u| {
+        if usize::from(u.what) != w {
+            return false;
         }
-        let a = num_cyclic::difference(d, t, plan::after(p, c, k));
-        if num_mask::has(m[c], a as u32) {
-            return true;
-        }
-    }
-    false
+        let ahead = num_cyclic::difference(b.circuit.cycle, t, usize::from(u.after));
+        num_mask::has(b.offsets, ahead as u32)
+    })
 }
 
-// Whether circuits c and e both hold w in slot t.
-pub fn both_hold(p: &Plan, m: &Masks, c: usize, e: usize, t: usize, w: usize) -> bool
-    requires in_bounds { InBounds p.now c × (get_or m.now c 0 < 2 ^ cycle_in p.now c) }
-    requires in_bounds_2 { InBounds p.now e × (get_or m.now e 0 < 2 ^ cycle_in p.now e) }
-    ensures { result ≡ both? (booking_in p.now m.now c) (booking_in p.now m.now e) t w }
+// Whether two circuits both hold w in slot t.
+pub fn both_hold(a: &Booking, b: &Booking, t: usize, w: usize) -> bool
+    ensures { result ≡ both? (claim_of a.now) (claim_of b.now) t w }
 {
-    if !holds(p, m, c, t, w) {
-        return false;
-    }
-    holds(p, m, e, t, w)
+    holds(a, t, w) && holds(b, t, w)
 }
 
-// Whether circuits c and e clash: never where their sets are apart.
-pub fn clashes_by_sets(sets: &Sets, p: &Plan, m: &Masks, c: usize, e: usize) -> bool
-    requires in_bounds { InBounds p.now c × InBounds p.now e }
-    requires collected { Collected p.now sets.now c (use_count p.now c) }
-    requires collected_2 { Collected p.now sets.now e (use_count p.now e) }
-    ensures { result ≡ clashes? (booking_in p.now m.now c) (booking_in p.now m.now e) }
+// Whether two circuits clash: never where the resources that they use are apart.
+pub fn clashes_by_sets(x: &Resources, y: &Resources, a: &Booking, b: &Booking) -> bool
+    requires left { Collected a.now.circuit.now.uses.items x.now.words }
+    requires right { Collected b.now.circuit.now.uses.items y.now.words }
+    ensures { result ≡ clashes? (claim_of a.now) (claim_of b.now) }
 {
-    if clash_sets::apart(sets, c, e) {
-        return false;
-    }
-    clash_pair::pair_clashes(p, m, c, e)
+    !x.is_apart(y) && clash_pair::pair_clashes(a, b)
 }
 
-// The slots before both circuits come round together for certain.
-pub fn slots_of(p: &Plan, c: usize, e: usize) -> usize
-    requires { InBounds p.now c × InBounds p.now e }
-    ensures { SlotsOf p.now c e result }
+// The slots before two cycles come round together for certain.
+pub fn slots_of(c: Cycle, d: Cycle) -> usize
+    ensures { SlotsOf c.slots d.slots result }
 {
-    plan::cycle(p, c) * plan::cycle(p, e)
+    c.slots * d.slots
 }

@@ -5,7 +5,7 @@ use native.Mathlib.Nat.{zero-add}
 use lib.Dec.{eqb}
 use Rattle.model.specs.Divisor.{gcd}
 use Rattle.model.specs.Tests.{◌and◌, any}
-use Rattle.model.specs.Network.{Use}
+use Rattle.model.specs.declared.Use.{Use}
 use Rattle.model.specs.Holding.{Booking, meet?, offsets_clash?}
 use Rattle.model.proofs.Divisor.{gcd_pos}
 use Rattle.num_cyclic.specs.Ahead.{ahead}

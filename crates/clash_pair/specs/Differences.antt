@@ -1,9 +1,8 @@
 -- How differences of offsets tell clashes. Assumes nothing: these are definitions.
 use Rattle.std.specs.Prelude.{ℕ, ◌<◌, ◌≡◌, Bool, ◌||◌, List}
-use Rattle.model.specs.Tests.{any, up_to}
-use Rattle.model.specs.Network.{Use}
+use Rattle.model.specs.Tests.{any}
+use Rattle.model.specs.declared.Use.{Use}
 use Rattle.model.specs.Holding.{meet?}
-use Rattle.plan.specs.Plan.{use_in}
 use Rattle.num_mask.specs.Bits.{bit, offsets}
 use Rattle.num_cyclic.specs.Ahead.{ahead}
 
@@ -23,9 +22,9 @@ unfoldable pub any_meets : ℕ → List Use → List Use → ℕ → Bool
 unfolding meets_any
 any_meets g l m d = any (λ u. meets_any g u m d) l
 
--- r has the bits of m, and those at which the use u meets one of the first uses of circuit e
-pub record MarksUse (p : List ℕ) (u : Use) (e count g m r : ℕ) : Type 0 where
-  pub marks : Marks m r g (meets_any g u (up_to count (use_in p e)))
+-- r has the bits of m, and those at which the use u meets one of l
+pub record MarksUse (u : Use) (l : List Use) (g m r : ℕ) : Type 0 where
+  pub marks : Marks m r g (meets_any g u l)
 
 -- below g the bits of r are the differences at which a use of l meets one of m
 pub record Bad (g : ℕ) (l m : List Use) (r : ℕ) : Type 0 where

@@ -6,19 +6,20 @@ use mathlib.Core.Option.{none}
 use native.Mathlib.Omega.{arith}
 use borrow.Author.Tests.{ltb-false}
 use lib.ListN.{length, get_or, length-map}
-use Rattle.model.specs.Sizes.{circuits_most, head_size, assignment_file}
+use Rattle.std.specs.declared.result.Result.TheVariants.{Ok}
+use Rattle.arrayvec.specs.ArrayVec.{ArrayVec}
+use Rattle.model.specs.Sizes.{head_size}
 use Rattle.model.specs.Bytes.{length_at}
 use Rattle.model.specs.Network.{Request}
 use Rattle.model.specs.Holding.{offsets_of}
-use Rattle.model.specs.Reading.{have, starts, offsets_verdict, assignment_walk, offsets_at, assignment}
+use Rattle.model.specs.Answers.{damage}
+use Rattle.model.specs.declared.File.TheVariants.{Assignment}
+use Rattle.model.specs.Reading.{faultless, have, Walked, complete, starts, offsets_verdict, assignment_walk, offsets_at, assignment}
 use Rattle.model.specs.Jobs.{assignment_fault}
-use Rattle.model.specs.declared.Verdict.TheVariants.{Fine}
 use Rattle.std.proofs.lemmas.List.{get_or-map}
 use Rattle.model.proofs.Readers.{offsets_free, offsets_tests_lem, offsets_sound}
-use Rattle.file_records.specs.Fields.{places_of}
-use Rattle.file_records.specs.declared.Ending.TheVariants.{Whole}
-use Rattle.file_records.specs.declared.Places.{Places}
-use Rattle.file_records.proofs.Endings.{places-whole, row_long, row_is}
+use Rattle.file_records.specs.Walks.{places_of}
+use Rattle.file_records.proofs.Endings.{places-whole}
 use Rattle.file_assignment.specs.Parts.{BookedAt}
 
 module _ (q : Request) (s : List ℕ) where
@@ -27,21 +28,20 @@ module _ (q : Request) (s : List ℕ) where
   unfolding assignment
   starts_many e = sym (length-map (starts (assignment_walk q s)) (offsets_at s)) ∙ (offsets_sound q s e).each
 
-  -- ---- r is what `read` told of a file that is whole
+  -- ---- `read` told of these places: the file is whole
 
-  module _ (r : Places) (e : r ≡ places_of (assignment_walk q s)) (h : r.ending ≡ Whole) where
+  module _ (places : ArrayVec ℕ) (e : Ok places ≡ places_of (assignment_walk q s)) where
+    walked : assignment_walk q s ≡ complete places.items
+    walked = places-whole (assignment_walk q s) places e
+
     pub file_whole : assignment_fault q s ≡ none
-    file_whole = places-whole (assignment_walk q s) r e assignment_file h
+    file_whole = ap (damage Assignment) walked
 
-    pub places-long : length r.at ≡ circuits_most
-    places-long = row_long (assignment_walk q s) r e (omega (arith, (offsets_free q s file_whole).few))
+    pub places_many : length places.items ≡ length q.circuits
+    places_many = ap (λ (w : Walked). length (starts w)) (sym walked) ∙ starts_many file_whole
 
-    pub booked_here : (c : ℕ) → c < length q.circuits → BookedAt q s c (get_or r.at c 0)
-    booked_here c low = record {
-      whole = file_whole;
-      low = low;
-      is = row_is (assignment_walk q s) r e c (omega (arith, starts_many file_whole));
-    }
+    pub booked_here : (c : ℕ) → c < length q.circuits → BookedAt q s c (get_or places.items c 0)
+    booked_here c low = record { whole = file_whole; low = low; is = ap (λ (w : Walked). get_or (starts w) c 0) (sym walked) }
 
   -- ---- circuit c's record starts at a
 
@@ -49,7 +49,7 @@ module _ (q : Request) (s : List ℕ) where
     found : c < length (starts (assignment_walk q s))
     found = omega (arith, starts_many b.whole, b.low)
 
-    fine : offsets_verdict q s c a ≡ Fine
+    fine : offsets_verdict q s c a ≡ faultless
     fine = rw b.is ((offsets_free q s b.whole).fine c found)
 
     pub offsets_are : offsets_of (assignment q s) c ≡ offsets_at s a

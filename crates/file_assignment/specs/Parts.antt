@@ -3,9 +3,8 @@ use Rattle.std.specs.Prelude.{ℕ, ◌<◌, ◌≡◌, List, length, get_or, dro
 use Rattle.std.proofs.Math.Option.{none}
 use Rattle.model.specs.Tests.{neg}
 use Rattle.model.specs.Network.{Request}
-use Rattle.model.specs.Reading.{judge, starts, offsets_rows, assignment_walk}
+use Rattle.model.specs.Reading.{Verdict, judge, starts, offsets_rows, assignment_walk}
 use Rattle.model.specs.Jobs.{assignment_fault}
-use Rattle.model.specs.declared.Verdict.{Verdict}
 
 -- the tests on an offsets record's numbers behind the one on how many stand before it
 unfoldable pub offsets_numbers : (have len demand : ℕ) → Verdict

@@ -1,14 +1,8 @@
--- Tests on a circuit record that functions of their own make. Assumes nothing: these are definitions.
-use Rattle.std.specs.Prelude.{ℕ, Bool, List, drop, eqb}
-use Rattle.model.specs.Tests.{neg}
-use Rattle.model.specs.Reading.{judge, hop_at, circuit_rows}
-use Rattle.model.specs.declared.Verdict.{Verdict}
+-- The tests on the numbers of a circuit record, by its bytes. Assumes nothing: these are definitions.
+use Rattle.std.specs.Prelude.{ℕ, List}
+use Rattle.model.specs.Bytes.{length_at}
+use Rattle.model.specs.Reading.{Verdict, have, cycle_at, demand_at, hops_at, circuit_head}
 
--- hops i and j of the circuit record at p have the same buffer
-abbrev pub same_hop : List ℕ → ℕ → ℕ → ℕ → Bool
-same_hop s p j i = eqb (hop_at s p i) (hop_at s p j)
-
--- the tests on a circuit's numbers behind the five on its place in the file
-unfoldable pub circuit_numbers : (len cycle demand hops : ℕ) → Verdict
-unfolding neg
-circuit_numbers len cycle demand hops = judge (drop 5 (circuit_rows 0 0 len cycle demand hops))
+-- of the record at p of the file s, behind n others
+abbrev pub head_verdict : List ℕ → ℕ → ℕ → Verdict
+head_verdict s n p = circuit_head n (have s p) (length_at s p) (cycle_at s p) (demand_at s p) (hops_at s p)

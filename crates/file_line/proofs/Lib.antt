@@ -1,3 +1,2 @@
--- The laws that the proofs of this crate cite, and those for its callers. Assumes nothing.
-pub mod Laws
+-- The laws of a line for its callers. Assumes nothing.
 pub mod Parts

@@ -11,8 +11,7 @@ use Rattle.model.specs.Bytes.{length_at}
 use Rattle.model.specs.Network.{Network}
 use Rattle.model.specs.Lines.{line_of, no_line}
 use Rattle.model.specs.Sound.{SoundLine}
-use Rattle.model.specs.Reading.{Walked, complete, stopped, starts, line_verdict, table_step, table_walk, line_at, table}
-use Rattle.model.specs.declared.Step.TheVariants.{Next}
+use Rattle.model.specs.Reading.{Walked, complete, stopped, starts, line_verdict, next_at, table_step, table_walk, line_at, table}
 use Rattle.model.proofs.Tests.{same}
 use Rattle.std.proofs.lemmas.List.{get_or-map}
 use Rattle.model.proofs.Records.{Row, Comes, walk_comes, Passes, step_says}
@@ -22,10 +21,10 @@ use Rattle.file_line.specs.Parts.{line_start, LineIn}
 -- ---- where the lines stand
 
 -- the record behind a line that passes
-next_is : (net : Network) (s : List ℕ) (n p next : ℕ) → table_step net s n p ≡ Next next → next ≡ p + (head_size + line_size)
+next_is : (net : Network) (s : List ℕ) (n p next : ℕ) → table_step net s n p ≡ next_at next → next ≡ p + (head_size + line_size)
 unfolding table_step
 next_is net s n p next e =
-    let here : Passes line_kind (line_verdict net s n p) s p next = step_says line_kind false (line_verdict net s n p) s p (Next next) e in
+    let here : Passes line_kind (line_verdict net s n p) s p next = step_says line_kind false (line_verdict net s n p) s p (next_at next) e in
     omega (arith, here.next_is, same (length_at s p) line_size (line_tests_lem net s n p here.fine).1.0)
 
 -- lines that stand one behind the other

@@ -1,47 +1,24 @@
-// The parts of a request without a fault, by the byte where a circuit's record starts. Assumes nothing.
+// A request without a fault, read in place, and the records of its circuits. Assumes nothing.
 #![tactic(auto)]
 
-ghost use Rattle.std.specs.Prelude.{◌<◌};
-ghost use Rattle.model.specs.Network.{circuit_of, hops};
-ghost use Rattle.model.specs.Reading.{request};
-ghost use Rattle.file_parts.specs.Parts.{StartsAt, HasLink, CycleIs, DemandIs, HopsIs, HopIs, FromIs};
+ghost use Rattle.file_parts.specs.Parts.{Starts, StartsAt};
 
-use model::{CYCLE_AT, DEMAND_AT, HOPS_AT};
+use file_records::Places;
 
-// The cycle, the demand, the hops and the buffer of hop j of circuit c, whose record starts at a.
-pub fn cycle_of(s: &[u8], c: usize, a: usize) -> usize
-    requires { StartsAt s.now c a }
-    ensures { CycleIs (request s.now) c result }
-{
-    file_records::byte(s, a + CYCLE_AT)
+mod record;
+
+// The bytes of a request, and where the records of its circuits start.
+#[derive(Clone, Copy)]
+pub struct Request<'a> {
+    pub file: &'a [u8],
+    pub starts: &'a Places,
+    ghost whole: { Starts file.now starts.now.items },
 }
 
-pub fn demand_of(s: &[u8], c: usize, a: usize) -> usize
-    requires { StartsAt s.now c a }
-    ensures { DemandIs (request s.now) c result }
-{
-    file_records::byte(s, a + DEMAND_AT)
-}
-
-pub fn hops_of(s: &[u8], c: usize, a: usize) -> usize
-    requires { StartsAt s.now c a }
-    ensures { HopsIs (request s.now) c result }
-{
-    file_records::byte(s, a + HOPS_AT)
-}
-
-pub fn hop_of(s: &[u8], c: usize, a: usize, j: usize) -> usize
-    requires starts_at { StartsAt s.now c a }
-    requires j_bound { j < hops (circuit_of (request s.now) c) }
-    ensures { HopIs (request s.now) c j result }
-{
-    file_records::hop(s, a, j)
-}
-
-// The router that owns buffer b.
-pub fn from_router(s: &[u8], b: usize) -> usize
-    requires { HasLink s.now b }
-    ensures { FromIs (request s.now) b result }
-{
-    file_records::from_of(s, b)
+// The record of a circuit of the request, by the byte where it starts.
+#[derive(Clone, Copy)]
+pub struct CircuitRecord<'a> {
+    pub request: Request<'a>,
+    pub start: usize,
+    ghost here: { StartsAt request.file.now start },
 }

@@ -1,13 +1,13 @@
--- Laws of bytes laid into an area: none, one behind the other, from the front, and by stores. Assumes nothing.
+-- Laws of bytes laid into an area: none, one behind the other, and from the front. Assumes nothing.
 use Prim.Native.Nat.{ℕ, ◌+◌, ◌≤◌}
 use mathlib.Core.Path.{◌≡◌, sym, ap, ◌∙◌}
 use mathlib.Core.List.{List, [], ◌++◌, append_assoc}
 use native.Mathlib.Nat.{zero-add}
 use native.Mathlib.Omega.{arith}
 use lib.ListN.{length, take, drop, length-append, length-drop}
-use lib.Seq.{sets, sets-eq, take_at, drop_at, drop-drop, length-take-le, paste-zero}
+use lib.Seq.{take_at, drop_at, drop-drop, length-take-le, paste-zero}
 use Rattle.model.specs.Bytes.{over}
-use Rattle.file_writer.specs.Pasting.{pasted}
+use Rattle.file_writer.specs.Pasting.{pasted, Laid}
 
 -- no bytes
 pub pasted-none : (out : List ℕ) (at : ℕ) → pasted out at [] ≡ out
@@ -18,11 +18,6 @@ pasted-none out at = sym (paste-zero out at [])
 pub pasted-over : (out bytes : List ℕ) → pasted out 0 bytes ≡ over bytes out
 unfolding pasted over
 pasted-over out bytes = ap (λ n. bytes ++ drop n out) (zero-add (length bytes))
-
--- stores one behind the other
-pub pasted-sets : (out : List ℕ) (at : ℕ) (bytes : List ℕ) → at + length bytes ≤ length out → sets out at bytes ≡ pasted out at bytes
-unfolding pasted
-pasted-sets out at bytes h = sets-eq bytes out at h
 
 -- what stands before and in the new bytes
 front : (out : List ℕ) (at : ℕ) (bytes : List ℕ) → at ≤ length out → length (take at out ++ bytes) ≡ at + length bytes
@@ -52,3 +47,7 @@ pub pasted_then : (out₀ : List ℕ) {out out' : List ℕ} (at : ℕ) {k : ℕ}
     → out ≡ pasted out₀ at a → k ≡ at + length a → out' ≡ pasted out k b → at ≤ length out₀ → out' ≡ pasted out₀ at (a ++ b)
 pasted_then out₀ at {k} a b e h f room =
     f ∙ ap (λ o. pasted o k b) e ∙ ap (λ i. pasted (pasted out₀ at a) i b) h ∙ pasted_twice out₀ at a b room
+
+pub laid_then : {out₀ out out' : List ℕ} (at : ℕ) {k r : ℕ} (a b : List ℕ)
+    → Laid out₀ at a out k → Laid out k b out' r → at ≤ length out₀ → Laid out₀ at (a ++ b) out' r
+laid_then {out₀} at a b h l room = record { area = pasted_then out₀ at a b h.area h.next l.area room; next = omega (arith, h.next, l.next, length-append a b) }

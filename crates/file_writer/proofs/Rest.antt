@@ -1,12 +1,13 @@
 -- A loop that lays bytes into an area one part behind the other: what is laid in so far and what is left. Assumes nothing.
 use Prim.Native.Nat.{ℕ, ◌+◌, ◌≤◌, ◌<◌}
 use mathlib.Core.Path.{◌≡◌, refl, sym, ap, ◌∙◌}
-use mathlib.Core.List.{List, [], ◌++◌}
+use mathlib.Core.List.{List, [], ◌∷◌, ◌++◌, map}
 use native.Mathlib.Omega.{arith}
 use lib.ListN.{length, length-append}
+use Rattle.model.specs.Tests.{joined}
 use Rattle.file_writer.specs.Pasting.{pasted, Laid}
 use Rattle.file_writer.proofs.Pastes.{pasted-none, pasted_length, pasted_twice}
-use Rattle.file_writer.proofs.Lists.{left_of, left_first, left_none}
+use Rattle.file_writer.proofs.Lists.{left_of, left_first}
 
 -- with the rest laid in at p the area is what it would be with all laid in at `at`
 pub record Rest (out₀ : List ℕ) (at : ℕ) (all out : List ℕ) (p : ℕ) (rest : List ℕ) : Type 0 where
@@ -51,5 +52,23 @@ module _ {out₀ : List ℕ} {at : ℕ} {all out : List ℕ} {p : ℕ} (n : ℕ)
   pub part_more : j < n → {out' : List ℕ} {p' : ℕ} → Laid out p (f j) out' p' → Rest out₀ at all out' p' (left_of n f (j + 1))
   part_more h l = rest_more v (f j) (left_of n f (j + 1)) (left_first n f j h) l
 
-  pub part_end : n ≤ j → Laid out₀ at all out p
-  part_end h = rest_end v (left_none n f j h)
+-- ---- the parts are those of the items of a list: xs are left
+
+module _ {A : Type 0} (f : A → List ℕ) where
+  next_first : {xs more : List A} {x : A} → xs ≡ x ∷ more → joined (map f xs) ≡ f x ++ joined (map f more)
+  unfolding joined
+  next_first e = ap (λ l. joined (map f l)) e
+
+  pub none_left : {xs : List A} → xs ≡ [] → joined (map f xs) ≡ []
+  unfolding joined
+  none_left e = ap (λ l. joined (map f l)) e
+
+  module _ {out₀ : List ℕ} {at : ℕ} {all out : List ℕ} {p : ℕ} {xs : List A} (v : Rest out₀ at all out p (joined (map f xs))) where
+    pub item_room : {x : A} {more : List A} → xs ≡ x ∷ more → p + length (f x) ≤ length out
+    item_room e = rest_room v _ _ (next_first e)
+
+    pub item_more : {x : A} {more : List A} → xs ≡ x ∷ more → {out' : List ℕ} {p' : ℕ} → Laid out p (f x) out' p' → Rest out₀ at all out' p' (joined (map f more))
+    item_more e l = rest_more v _ _ (next_first e) l
+
+    pub items_end : xs ≡ [] → Laid out₀ at all out p
+    items_end e = rest_end v (none_left e)

@@ -1,16 +1,16 @@
--- Lines in chains by their inports: the next line that has an inport, and what `link` asks and tells. Assumes nothing: these are definitions.
-use Rattle.std.specs.Prelude.{ℕ, suc, ◌+◌, ◌-◌, ◌≤◌, ◌<◌, ◌≡◌, Bool, List, length, get_or, eqb}
+-- Lines in chains by their inports: the lines with an inport, and what `link` asks and tells. Assumes nothing: these are definitions.
+use Rattle.std.specs.Prelude.{ℕ, ◌+◌, ◌-◌, ◌≤◌, ◌<◌, ◌≡◌, Bool, List, get_or, eqb}
+use Rattle.std.specs.List.{filter, range_with_len}
 use Rattle.model.specs.Sizes.{lines_most, resources_most}
-use Rattle.model.specs.Tests.{least}
-use Rattle.model.specs.Lines.{Line}
+use Rattle.model.specs.declared.Line.{Line}
 use Rattle.model.specs.Reading.{line_at}
-use Rattle.num_divisor.specs.Common.{Cycle}
+use Rattle.num_divisor.specs.Common.{IsCycle}
 use Rattle.file_line.specs.Parts.{line_start}
-use Rattle.plan.specs.Plan.{port_of}
+use Rattle.plan.specs.Ports.{port_of}
 
--- the first number from i on, below n, that passes; and n where there is none
-unfoldable pub next_in : ℕ → (ℕ → Bool) → ℕ → ℕ
-next_in n p i = i + least (n - i) (λ d. p (i + d))
+-- the numbers from i on, below n, that pass
+unfoldable pub numbers : (p : ℕ → Bool) (n i : ℕ) → List ℕ
+numbers p n i = filter p (range_with_len i (n - i))
 
 -- ---- the inports of lines
 
@@ -25,40 +25,22 @@ port_at t m = port_of (line_in t m).router (line_in t m).inp
 abbrev pub has : List ℕ → ℕ → ℕ → Bool
 has t port m = eqb (port_at t m) port
 
+-- of so many lines those that have this port, from line i on
+abbrev pub lines_from : (t : List ℕ) (lines port i : ℕ) → List ℕ
+lines_from t lines port i = numbers (has t port) lines i
+
+abbrev pub lines_at : (t : List ℕ) (lines port : ℕ) → List ℕ
+lines_at t lines port = lines_from t lines port 0
+
 -- ---- what the code asks of the lines of a file, and what it makes of them
 
 pub record Tabled (t : List ℕ) (lines : ℕ) : Type 0 where
   pub few : lines ≤ lines_most
   pub port : (m : ℕ) → m < lines → port_at t m < resources_most
-  pub period : (m : ℕ) → m < lines → Cycle (line_in t m).period
+  pub period : (m : ℕ) → m < lines → IsCycle (line_in t m).period
   pub slot : (m : ℕ) → m < lines → (line_in t m).slot < (line_in t m).period
 
--- ---- the chains as an array: how many lines there are; for each inport its first line; for each line the next with its inport
-
-abbrev pub next_at : ℕ
-next_at = 1 + resources_most
-
-abbrev pub chains_size : ℕ
-chains_size = next_at + lines_most
-
-abbrev pub lines_in : List ℕ → ℕ
-lines_in ch = get_or ch 0 0
-
-abbrev pub first_in : List ℕ → ℕ → ℕ
-first_in ch port = get_or ch (1 + port) 0
-
-abbrev pub after_in : List ℕ → ℕ → ℕ
-after_in ch m = get_or ch (next_at + m) 0
-
--- the chains of the lines from m on
-pub record Chained (t : List ℕ) (lines m : ℕ) (ch : List ℕ) : Type 0 where
-  pub long : length ch ≡ chains_size
-  pub many : lines_in ch ≡ lines
-  pub first : (k : ℕ) → k < resources_most → first_in ch k ≡ next_in lines (has t k) m
-  pub onward : (x : ℕ) → m ≤ x → x < lines → after_in ch x ≡ next_in lines (has t (port_at t x)) (suc x)
-
--- all lines are in their chains
-pub record Linked (t : List ℕ) (ch : List ℕ) : Type 0 where
-  pub tabled : Tabled t (lines_in ch)
-  pub first : (k : ℕ) → k < resources_most → first_in ch k ≡ next_in (lines_in ch) (has t k) 0
-  pub onward : (x : ℕ) → x < lines_in ch → after_in ch x ≡ next_in (lines_in ch) (has t (port_at t x)) (suc x)
+-- the chains of the lines from m on: the first line of each inport, and the next of each line; where there is none, how many lines there are
+pub record Chained (t : List ℕ) (lines m : ℕ) (heads nexts : List ℕ) : Type 0 where
+  pub first : (k : ℕ) → k < resources_most → get_or heads k 0 ≡ get_or (lines_from t lines k m) 0 lines
+  pub onward : (x : ℕ) → m ≤ x → x < lines → get_or nexts x 0 ≡ get_or (lines_from t lines (port_at t x) (x + 1)) 0 lines

@@ -1,79 +1,44 @@
 -- Laws behind the loops of the table check: over the offsets of a mask, and over hops where all offsets are told at once. Assumes nothing.
-use Prim.Native.Nat.{ℕ, ◌+◌, ◌-◌, ◌^◌, ◌≤◌, ◌<◌}
-use mathlib.Core.Path.{◌≡◌, refl, sym, ap, ◌∙◌}
-use mathlib.Core.Bool.{Bool, true, false, not}
+use Rattle.std.proofs.Common.{◌≡◌, ℕ, suc, ◌<◌, List, [], ◌∷◌, take, length, get_or, refl, arith}
+use Rattle.std.specs.List.{All}
 use mathlib.Core.List.Memᴰ
-use mathlib.Core.List.{List, [], ◌∷◌}
-use mathlib.Core.Option.{Option, none}
-use native.Mathlib.Decide.{dec_lt}
-use native.Mathlib.Omega.{arith}
-use borrow.Author.Tests.{not-true, not-false}
-use lib.ListN.{get_or}
+use mathlib.Core.Option.{Option, none, some}
 use Rattle.model.specs.Tests.{◌else◌, ◌∈◌}
 use Rattle.model.specs.declared.Answer.{Answer}
 use Rattle.model.proofs.Tests.{T→eq, first-none}
-use Rattle.num_mask.specs.Bits.{offsets, Lowest}
-use Rattle.num_mask.proofs.Laws.{offsets-zero, offsets_in}
-use Rattle.plan.specs.Plan.{send_count}
-use Rattle.plan_refusal.specs.Found.{found, nothing}
-use Rattle.plan_refusal.specs.declared.Refusal.{Refusal}
-use Rattle.plan_refusal.proofs.Firsts.{nothing-none, told-some}
-use Rattle.line_series.specs.Judging.{hop_fault}
+use Rattle.num_mask.specs.Bits.{offsets}
+use Rattle.num_mask.proofs.Laws.{offsets_in}
+use Rattle.plan.specs.Plan.{CircuitPlan}
 use Rattle.line_served.specs.Serving.{AllServed}
-use Rattle.line_check.specs.Checks.{first_of, offset_fault, circuit_fault}
+use Rattle.line_check.specs.Checks.{first_of, no_send, offset_fault, circuit_fault}
 
--- ---- the offsets of a mask: those in `left` are still to come
+-- ---- the first that is there, where none of ys is
 
-module _ (p m t : List ℕ) (lines c : ℕ) where
-  pub record Left (left : ℕ) : Type 0 where
-    pub same : circuit_fault p m t lines c ≡ first_of (offsets left) (offset_fault p t lines c)
+module _ (f : ℕ → Option Answer) where
+  pub first_of-none : (xs : List ℕ) → All (λ a. f a ≡ none) xs → none ≡ first_of xs f
+  unfolding first_of ◌else◌
+  first_of-none [] a = refl
+  first_of-none (x ∷ xs) a = rw (a 0 0 (omega arith)) (first_of-none xs (λ k d h. a (suc k) d (omega arith)))
 
-  pub left_all : Left (get_or m c 0)
-  unfolding circuit_fault
-  left_all = record { same = refl }
-
-  pub left_none : (left : ℕ) → left ≡ 0 → Left left → none ≡ circuit_fault p m t lines c
-  unfolding first_of
-  left_none left e l = sym (l.same ∙ rw (e, offsets-zero) refl)
-
-  module _ (left : ℕ) (l : Left left) (i a : ℕ) (low : Lowest left i) (ae : a ≡ i) (r : Refusal) (re : found r ≡ offset_fault p t lines c a) (b : Bool) (be : b ≡ nothing r) where
-    split : circuit_fault p m t lines c ≡ found r else first_of (offsets (left - 2 ^ i)) (offset_fault p t lines c)
-    unfolding first_of
-    split = l.same ∙ rw (low.parts, re, ae) refl
-
-    pub left_more : (left' : ℕ) → left' ≡ left - 2 ^ i → not b ≡ false → Left left'
-    unfolding ◌else◌
-    left_more left' e h = rw e (record { same = split ∙ ap (λ o. o else first_of (offsets (left - 2 ^ i)) (offset_fault p t lines c)) (nothing-none r (sym be ∙ not-false b h)) })
-
-    pub left_found : not b ≡ true → found r ≡ circuit_fault p m t lines c
-    unfolding ◌else◌
-    left_found h =
-        let x = told-some r (sym be ∙ not-true b h) in
-        x.1 ∙ sym (split ∙ ap (λ o. o else first_of (offsets (left - 2 ^ i)) (offset_fault p t lines c)) x.1)
+  pub first_of-found : (xs ys : List ℕ) (a : ℕ) (r : Answer) → ys ≡ take (length ys) xs → length ys < length xs → a ≡ get_or xs (length ys) a → All (λ a. f a ≡ none) ys → f a ≡ some r
+      → some r ≡ first_of xs f
+  unfolding first_of ◌else◌
+  first_of-found [] ys a r e l s clear here = absurd (omega arith)
+  first_of-found (x ∷ xs) [] a r e l s clear here = rw (← s, here) refl
+  first_of-found (x ∷ xs) (y ∷ ys) a r e l s clear here =
+      let same : x ≡ y = cc e in
+      let rest : ys ≡ take (length ys) xs = cc e in
+      rw (same, clear 0 0 (omega arith)) (first_of-found xs ys a r rest (omega arith) s (λ k d h. clear (suc k) d (omega arith)) here)
 
 -- ---- all offsets of a mask at once, hop by hop
 
-module _ (p m t : List ℕ) (lines c : ℕ) where
-  pub record HopsServed (j : ℕ) : Type 0 where
-    pub at : (k : ℕ) → k < j → AllServed p (get_or m c 0) t lines c k
+in_none : (l : List ℕ) (f : ℕ → Option Answer) → ((a : ℕ) → a ∈ l → f a ≡ none) → first_of l f ≡ none
+unfolding first_of ◌else◌
+in_none [] f h = refl
+in_none (x ∷ l) f h = rw (h x (Memᴰ.head refl)) (in_none l f (λ a i. h a (Memᴰ.tail i)))
 
-  pub served_none : HopsServed 0
-  served_none = record { at = λ k h. absurd (omega arith) }
-
-  pub served_more : (j : ℕ) → HopsServed j → AllServed p (get_or m c 0) t lines c j → HopsServed (j + 1)
-  served_more j s all = record { at = λ k l. pick k l (dec_lt k j) }
-    where
-      pick : (k : ℕ) → k < j + 1 → Dec (k < j) → AllServed p (get_or m c 0) t lines c k
-      pick k l (yes b) = s.at k b
-      pick k l (no b) = let e : k ≡ j = omega arith in rw e all
-
-  in_none : (l : List ℕ) (f : ℕ → Option Answer) → ((a : ℕ) → a ∈ l → f a ≡ none) → first_of l f ≡ none
-  unfolding first_of ◌else◌
-  in_none [] f h = refl
-  in_none (x ∷ l) f h = rw (h x (Memᴰ.head refl)) (in_none l f (λ a i. h a (Memᴰ.tail i)))
-
-  pub served_all : (j n : ℕ) → n ≡ send_count p c → n ≤ j → HopsServed j → circuit_fault p m t lines c ≡ none
-  unfolding circuit_fault offset_fault
-  served_all j n e h s =
-      in_none (offsets (get_or m c 0)) (offset_fault p t lines c)
-      (λ a i. (first-none (send_count p c) (hop_fault p t lines c a)).1 (λ k l. (s.at k (omega arith)).each a (T→eq _ ((offsets_in (get_or m c 0) a).0 i).1)))
+pub served_all : (t : List ℕ) (lines : ℕ) (x : CircuitPlan) (mask c : ℕ) → All (λ s. AllServed t lines x.cycle s mask) x.sends → circuit_fault x mask t lines c ≡ none
+unfolding circuit_fault offset_fault
+served_all t lines x mask c s =
+    in_none (offsets mask) (offset_fault x t lines c)
+    (λ a i. (first-none (length x.sends) _).1 (λ k l. (s k no_send l).each a (T→eq _ ((offsets_in mask a).0 i).1) c k))

@@ -10,25 +10,32 @@ use native.Mathlib.Omega.{arith}
 use borrow.Author.Tests.{eq-eqb, ne_eqb, ltb-true}
 use lib.Dec.{eqb, eqb→eq, ltb}
 use lib.ListN.{length, get_or}
-use Rattle.model.specs.Sizes.{buffers_most, resources_most, local, inport_of, table_file}
+use Rattle.arrayvec.specs.ArrayVec.{ArrayVec}
+use Rattle.model.specs.Sizes.{buffers_most, resources_most, local, inport_of}
 use Rattle.model.specs.Divisor.{gcd}
 use Rattle.model.specs.Tests.{◌and◌, neg, least, given, ◌else◌, first}
-use Rattle.model.specs.Network.{Network, Request, Circuit, Send, send, circuit_of, hops, hop, inport, to_router}
+use Rattle.model.specs.Network.{Network, Request, Circuit, send, circuit_of, hops, hop, inport, to_router}
+use Rattle.model.specs.declared.File.TheVariants.{Table}
 use Rattle.model.specs.Holding.{offsets_of}
-use Rattle.model.specs.Lines.{Line, Series, line_of, meets?, serves?, series, offset_of, one_line, part_line, two_line, series_fault, lines_fault}
+use Rattle.model.specs.Lines.{Series, line_of, meets?, serves?, series, offset_of, one_line, part_line, two_line, series_fault, lines_fault}
+use Rattle.model.specs.declared.Line.{Line}
 use Rattle.model.specs.Reading.{table_walk, table}
 use Rattle.model.specs.Answers.{damage}
-use Rattle.model.proofs.Tests.{and→, →and, eq→eqb, least_same, bool_same}
+use Rattle.model.proofs.Tests.{and→, →and, eq→eqb, least_same, bool_same, get_or-up_to}
 use Rattle.model.specs.Sound.{SoundRequest, LeadsTo, SoundLine}
 use Rattle.model.proofs.Sound.{hop_small}
 use Rattle.model.proofs.Readers.{table_sound}
 use Rattle.file_line.specs.Parts.{LineIn}
 use Rattle.file_line.proofs.Parts.{line_is, line_good}
-use Rattle.plan.specs.Plan.{circuits_in, send_count, port_of, port_in, send_in, Stands}
-use Rattle.plan.proofs.Laws.{cycle_is, send_count_is, send_is, port_is}
+use Rattle.plan.specs.Ports.{port_of}
+use Rattle.plan.specs.Plan.{circuits_in, circuit_in, Stands}
+use Rattle.plan.specs.declared.Circuit.{Circuit as Planned}
+use Rattle.plan.proofs.Laws.{cycle_is, sends_are, send_count_is}
 use Rattle.line_chains.specs.Chains.{port_at, line_in, has, Tabled}
-use Rattle.line_series.specs.Judging.{agrees_of, covers_of, meets_at, part_at, one_of, again_at, met_by, fault_by, fault_at, hop_fault}
-use Rattle.line_check.specs.Checks.{first_of, offset_fault, circuit_fault, Facts}
+use Rattle.line_series.specs.Matching.{agrees, covers}
+use Rattle.line_series.specs.Judging.{meets, serves_part, fault_at}
+use Rattle.line_series.proofs.Least.{meets_at, part_at, one_of, again_at, fault_by, fault_is}
+use Rattle.line_check.specs.Checks.{first_of, no_send, hop_fault, offset_fault, circuit_fault, fault_in, Facts}
 
 -- ---- tests and searches that agree
 
@@ -83,14 +90,14 @@ and_assoc true b c = refl
 and_assoc false b c = refl
 
 -- where a line meets, it stands at the port, and serves whole where every slot matches
-part_only : (p a w : Bool) → ((p and a) and neg (p and w)) ≡ ((p and a) and neg w)
+part_only : (p a w : Bool) → ((p and a) and neg (p and w)) ≡ (p and a and neg w)
 unfolding ◌and◌
 part_only true a w = refl
 part_only false a w = refl
 
 -- ---- the lines of a table without a fault against a series
 
-module _ (q : Request) (sound : SoundRequest q) (t : List ℕ) (whole : damage table_file (table_walk q.network t) ≡ none) where
+module _ (q : Request) (sound : SoundRequest q) (t : List ℕ) (whole : damage Table (table_walk q.network t) ≡ none) where
   abbrev net : Network
   net = q.network
 
@@ -128,60 +135,59 @@ module _ (q : Request) (sound : SoundRequest q) (t : List ℕ) (whole : damage t
         rw (line_is net t m (line_at m h))
         (port_test net sound.buffers (line_in t m) (line_good net t m (line_at m h)) s port at)
 
-    meets_same : (m : ℕ) → m < length Lines → meets? (line_of Lines m) s ≡ meets_at t port s.cycle s.start m
-    unfolding meets? meets_at agrees_of
+    meets_same : (m : ℕ) → m < length Lines → meets? (line_of Lines m) s ≡ meets_at t (length Lines) port s.cycle s.start m
+    unfolding meets? meets agrees
     meets_same m h =
         and_assoc _ _ _
         ∙ ap₂ ◌and◌ (at_line m h)
         (ap (λ (l : Line). eqb (s.start % gcd s.cycle l.period) (l.slot % gcd s.cycle l.period)) (line_is net t m (line_at m h)))
 
-    serves_same : (m : ℕ) → m < length Lines → serves? (line_of Lines m) s ≡ (has t port m and covers_of t s.cycle s.start m)
-    unfolding serves? covers_of
+    serves_same : (m : ℕ) → m < length Lines → serves? (line_of Lines m) s ≡ (has t port m and covers s.cycle s.start (line_in t m))
+    unfolding serves? covers
     serves_same m h =
         and_assoc _ _ _
         ∙ ap₂ ◌and◌ (at_line m h)
         (ap (λ (l : Line). eqb (s.cycle % l.period) 0 and eqb (s.start % l.period) l.slot) (line_is net t m (line_at m h)))
 
-    part_same : (m : ℕ) → m < length Lines → (meets? (line_of Lines m) s and neg (serves? (line_of Lines m) s)) ≡ part_at t port s.cycle s.start m
-    unfolding part_at meets_at
-    part_same m h = rw (serves_same m h, meets_same m h) (part_only (has t port m) (agrees_of t s.cycle s.start m) (covers_of t s.cycle s.start m))
+    part_same : (m : ℕ) → m < length Lines → (meets? (line_of Lines m) s and neg (serves? (line_of Lines m) s)) ≡ part_at t (length Lines) port s.cycle s.start m
+    unfolding serves_part
+    part_same m h = rw (serves_same m h, meets_same m h) (part_only (has t port m) (meets t s.cycle s.start m) (covers s.cycle s.start (line_in t m)))
 
     one_same : one_line Lines s ≡ one_of t (length Lines) port s.cycle s.start
-    unfolding one_line one_of
+    unfolding one_line
     one_same = least_same (length Lines) _ _ meets_same
 
-    parts_same : part_line Lines s ≡ least (length Lines) (part_at t port s.cycle s.start)
+    parts_same : part_line Lines s ≡ least (length Lines) (part_at t (length Lines) port s.cycle s.start)
     unfolding part_line
     parts_same = least_same (length Lines) _ _ part_same
 
     two_same : two_line Lines s ≡ least (length Lines) (again_at t (length Lines) port s.cycle s.start)
-    unfolding two_line again_at
+    unfolding two_line
     two_same = least_same (length Lines) _ _ (λ m h. ap₂ ◌and◌ (ap (λ n. ltb n m) one_same) (meets_same m h))
 
   -- the last test asks for a line that is there
-  told_same : (n one part two led led' out c a j : ℕ) → (one < n → led ≡ led')
-      → fault_by n (record { one = one; part = part; two = two }) led out c a j ≡ fault_by n (record { one = one; part = part; two = two }) led' out c a j
+  told_same : (n one part two led led' out c a j : ℕ) → (one < n → led ≡ led') → fault_by n one part two led out c a j ≡ fault_by n one part two led' out c a j
   unfolding given ◌else◌ neg
   told_same n one part two led led' out c a j e = pick (ltb one n) refl
     where
-      pick : (b : Bool) → ltb one n ≡ b
-          → fault_by n (record { one = one; part = part; two = two }) led out c a j ≡ fault_by n (record { one = one; part = part; two = two }) led' out c a j
+      pick : (b : Bool) → ltb one n ≡ b → fault_by n one part two led out c a j ≡ fault_by n one part two led' out c a j
       pick true f = rw (e (ltb-true one n f)) refl
       pick false f = rw f refl
 
   -- what is found of a series over the bytes is its fault
   fault_same : (c a j port : ℕ) → AtPort net (series q c a j) port
       → fault_at t (length Lines) port (series q c a j).cycle (series q c a j).start (series q c a j).out c a j ≡ series_fault q Lines c a j
-  unfolding fault_at met_by series_fault
+  unfolding series_fault
   fault_same c a j port at =
       let s = series q c a j in
       let n = length Lines in
-      rw (one_same s port at, parts_same s port at, two_same s port at)
+      fault_is t n port s.cycle s.start s.out c a j
+      ∙ rw (one_same s port at, parts_same s port at, two_same s port at)
       (told_same n _ _ _ _ _ _ c a j (λ l. ap (λ (x : Line). x.out) (sym (line_is net t _ (line_at _ l)))))
 
 -- ---- a plan
 
-module _ (q : Request) (assigned : List (List ℕ)) (p m t : List ℕ) (lines : ℕ) (f : Facts q assigned p m t lines) where
+module _ (q : Request) (assigned : List (List ℕ)) (p : ArrayVec Planned) (m t : List ℕ) (lines : ℕ) (f : Facts q assigned p m t lines) where
   stands : Stands q p
   stands = f.booked.stands
 
@@ -192,31 +198,31 @@ module _ (q : Request) (assigned : List (List ℕ)) (p m t : List ℕ) (lines : 
     listed : c < length q.circuits
     listed = omega (arith, stands.many)
 
-    port_at_lem : (a j : ℕ) → j < send_count p c → AtPort q.network (series q c a j) (port_in p c j)
+    send_is : (j : ℕ) → j < hops C → get_or (circuit_in p c).sends j no_send ≡ send q.network C j
+    send_is j on = rw (sends_are stands low) (get_or-up_to (hops C) (send q.network C) j no_send on)
+
+    port_at_lem : (a j : ℕ) → j < hops C → AtPort q.network (series q c a j) (port_of (send q.network C j).router (send q.network C j).inp)
     unfolding series send inport
-    port_at_lem a zero on = at_local refl (port_is stands low 0 on)
+    port_at_lem a zero on = at_local refl (port_is_local _ _ refl)
     port_at_lem a (suc i) on =
-        let there : suc i < hops C = omega (arith, send_count_is stands low) in
         let small = hop_small q stands.sound c listed i (omega arith) in
-        let e : port_in p c (suc i) ≡ hop C i = port_is stands low (suc i) on ∙ port_is_buffer _ _ small in
-        at_buffer (sym e) (omega arith) (ap (λ b. to_router q.network b) e ∙ (stands.sound.path c listed).joined i there)
+        let e = port_is_buffer (send q.network C (suc i)).router (hop C i) small in
+        at_buffer (sym e) (omega arith) (ap (λ b. to_router q.network b) e ∙ (stands.sound.path c listed).joined i on)
 
-    hop_is : (a j : ℕ) → j < send_count p c → hop_fault p t lines c a j ≡ series_fault q (table q.network t) c a j
-    unfolding hop_fault series send_in
-    hop_is a j on =
-        let s = send_is stands low j on in
-        rw (f.lined, cycle_is stands low, ap (λ (x : Send). x.out) s, ap (λ (x : Send). x.after) s)
-        (fault_same q stands.sound t f.whole c a j _ (port_at_lem a j on))
+    hop_is : (a j : ℕ) → j < hops C → hop_fault (circuit_in p c) t lines c a j ≡ series_fault q (table q.network t) c a j
+    unfolding series
+    hop_is a j on = rw (f.lined, cycle_is stands low, send_is j on) (fault_same q stands.sound t f.whole c a j _ (port_at_lem a j on))
 
-    circuit_is : circuit_fault p m t lines c
+    circuit_is : fault_in p m t lines c
         ≡ first (length (offsets_of assigned c)) (λ o. first (hops C) (λ j. series_fault q (table q.network t) c (offset_of assigned c o) j))
     unfolding circuit_fault offset_fault
     circuit_is =
         rw (f.booked.taken c low, ← send_count_is stands low)
-        (first_in_lem (offsets_of assigned c) (offset_fault p t lines c) ∙ first_same _ _ _ (λ o h. first_same _ _ _ (λ j on. hop_is _ j on)))
+        (first_in_lem (offsets_of assigned c) (offset_fault (circuit_in p c) t lines c)
+        ∙ first_same _ _ _ (λ o h. first_same _ _ _ (λ j on. hop_is _ j (omega (arith, send_count_is stands low)))))
 
   -- what the check finds over the plan is the fault of the request's lines
-  pub faults_are : first (circuits_in p) (circuit_fault p m t lines) ≡ lines_fault q assigned (table q.network t)
+  pub faults_are : first (circuits_in p) (fault_in p m t lines) ≡ lines_fault q assigned (table q.network t)
   unfolding lines_fault
   faults_are = rw stands.many (first_same (length q.circuits) _ _ (λ c h. circuit_is c (rw stands.many h)))
 

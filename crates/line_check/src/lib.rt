@@ -1,90 +1,67 @@
 // The table check behind reading: the series by circuit, offset and hop, to the first that has a fault. Assumes nothing.
 #![tactic(auto)]
 
-ghost use Rattle.std.specs.Prelude.{◌≡◌, true, ◌<◌};
+ghost use Rattle.std.specs.Prelude.{◌≡◌, ℕ, true};
 ghost use Rattle.std.proofs.Math.Option.{none};
-ghost use Rattle.model.specs.Sizes.{cycle_most};
-ghost use Rattle.plan.specs.Plan.{InBounds, Usable};
+ghost use Rattle.plan.specs.Plan.{shown};
 ghost use Rattle.plan_refusal.specs.Found.{found};
-ghost use Rattle.line_chains.specs.Chains.{lines_in, Linked};
 ghost use Rattle.line_check.specs.Checks.{offset_fault, circuit_fault, LinesFaultIs};
 
-use line_chains::Chains;
-use plan::{Masks, Plan};
-use plan_refusal::Refusal;
+use line_chains::Table;
+use line_series::Series;
+use line_served::all_served;
+use plan::{Booking, Bookings, Circuit};
+use plan_refusal::Tested;
 
-// An offset as a number.
-fn long(x: u32) -> usize
-    ensures { result ≡ x }
+// The hops of a circuit, by its number, with one offset.
+fn check_offset(table: &Table, circuit: &Circuit, number: u32, offset: u32) -> Tested
+    ensures { found result ≡ offset_fault (shown circuit.now) table.now.bytes.now table.now.lines number offset }
 {
-    x as usize
-}
-
-// The hops of circuit c with offset a.
-fn check_offset(p: &Plan, t: &[u8], ch: &Chains, c: usize, a: usize) -> Refusal
-    requires linked { Linked t.now ch.now }
-    requires in_bounds { InBounds p.now c × (a < cycle_most) }
-    ensures { found result ≡ offset_fault p.now t.now (lines_in ch.now) c a }
-{
-    let hops = plan::sends(p, c);
-    for j in 0..hops {
-        let r = line_series::judge(p, t, ch, c, a, j);
-        if !plan_refusal::is_nothing(r) {
-            return r;
-        }
+    for (hop, send) in circuit.sends.iter().enumerate() {
+        let series = Series {
+            circuit: number,
+            offset,
+            hop: hop as u32,
+            cycle: circuit.cycle,
+            send: *send,
+        };
+        series.judge(table)?;
     }
-    Refusal::Nothing
+    Ok(())
 }
 
-// Whether the series of all offsets of circuit c are served at every hop. Where it does not say yes, `check_offset` tells
+// Whether the series of all offsets of a circuit are served at every hop. Where it does not say yes, `check_offset` tells
 // what is wrong, if anything is.
-fn served(p: &Plan, m: &Masks, t: &[u8], ch: &Chains, c: usize) -> bool
-    requires linked { Linked t.now ch.now }
-    requires in_bounds { InBounds p.now c }
-    ensures { result ≡ true → circuit_fault p.now m.now t.now (lines_in ch.now) c ≡ none }
+fn served(table: &Table, booking: &Booking) -> bool
+    ensures { result ≡ true → (c : ℕ) → circuit_fault (shown booking.now.circuit.now) booking.now.offsets table.now.bytes.now table.now.lines c ≡ none }
 {
-    let hops = plan::sends(p, c);
-    for k in 0..hops {
-        if !line_served::all_served(p, m, t, ch, c, k) {
-            return false;
-        }
-    }
-    true
+    booking.circuit.sends.iter().all(|send| all_served(
+        table,
+        booking.circuit.cycle,
+        booking.offsets,
+        *send,
+    ))
 }
 
-// The offsets of circuit c, rising.
-fn check_circuit(p: &Plan, m: &Masks, t: &[u8], ch: &Chains, c: usize) -> Refusal
-    requires linked { Linked t.now ch.now }
-    requires in_bounds { InBounds p.now c }
-    ensures { found result ≡ circuit_fault p.now m.now t.now (lines_in ch.now) c }
+// The offsets of a circuit, by its number, rising.
+fn check_circuit(table: &Table, booking: &Booking, number: u32) -> Tested
+    ensures { found result ≡ circuit_fault (shown booking.now.circuit.now) booking.now.offsets table.now.bytes.now table.now.lines number }
 {
-    if served(p, m, t, ch, c) {
-        return Refusal::Nothing;
+    if served(table, booking) {
+        return Ok(());
     }
-    let mut left = m[c];
-    while left != 0 {
-        let i = num_mask::lowest(left);
-        let r = check_offset(p, t, ch, c, long(i));
-        if !plan_refusal::is_nothing(r) {
-            return r;
-        }
-        left = num_mask::without(left, i);
+    for offset in num_mask::offsets(booking.offsets) {
+        check_offset(table, booking.circuit, number, offset)?;
     }
-    Refusal::Nothing
+    Ok(())
 }
 
 // All series of the circuits, by circuit, offset and hop.
-pub fn check(p: &Plan, m: &Masks, t: &[u8], ch: &Chains) -> Refusal
-    requires linked { Linked t.now ch.now }
-    requires usable { Usable p.now }
-    ensures { LinesFaultIs p.now m.now t.now (lines_in ch.now) result }
+pub fn check(b: &Bookings, table: &Table) -> Tested
+    ensures { LinesFaultIs b.now.plan.now b.now.masks.now table.now.bytes.now table.now.lines result }
 {
-    let n = plan::circuits(p);
-    for c in 0..n {
-        let r = check_circuit(p, m, t, ch, c);
-        if !plan_refusal::is_nothing(r) {
-            return r;
-        }
+    for c in 0..b.plan.len() {
+        check_circuit(table, &b.of(c), c as u32)?;
     }
-    Refusal::Nothing
+    Ok(())
 }

@@ -1,4 +1,3 @@
 -- Laws of what is written, for the proofs of the functions and for other crates. Assumes nothing.
 pub mod Sizes
-pub mod Lines
 pub mod Tables

@@ -1,65 +1,40 @@
--- How many bytes the lines of a table have; and that they are few. Assumes nothing.
-use Prim.Native.Nat.{ℕ, zero, suc, ◌+◌, ◌*◌, ◌/◌, ◌%◌, ◌≤◌}
-use mathlib.Core.Path.{◌≡◌, ap, ◌∙◌}
-use mathlib.Core.Bool.{Bool, true, false, cond}
-use mathlib.Core.List.{List, [], ◌∷◌, map}
-use native.Mathlib.Nat.{mul-le-mul}
-use native.Mathlib.Omega.{arith}
-use lib.Dec.{eqb}
-use lib.ListN.{length, get_or, length-append}
-use Rattle.model.specs.Sizes.{cycle_most, hops_most, head_size, line_size}
+-- How many bytes the lines of a table have. Assumes nothing.
+use Rattle.std.proofs.Common.{ℕ, ◌+◌, ◌*◌, ◌≡◌, List, [], ◌∷◌, map, length, get_or, length-append, arith, refl, ap, ◌∙◌}
+use Rattle.arrayvec.specs.ArrayVec.{ArrayVec}
+use Rattle.model.specs.Sizes.{head_size, line_size}
 use Rattle.model.specs.Tests.{up_to, joined, sum}
-use Rattle.model.proofs.Tests.{length-up_to, up_to_same, map-up_to}
-use Rattle.num_mask.specs.Bits.{places, offsets}
-use Rattle.plan.specs.Plan.{circuits_in, send_count, InBounds}
+use Rattle.model.specs.declared.Send.{Send}
+use Rattle.model.proofs.Tests.{up_to_same}
+use Rattle.num_mask.specs.Bits.{offsets}
+use Rattle.plan.specs.declared.Circuit.{Circuit}
+use Rattle.plan.specs.Plan.{CircuitPlan, circuits_in, circuit_in}
 use Rattle.file_writer.proofs.Lists.{joined_length, sum_more}
-use Rattle.line_record.specs.Record.{send_bytes}
-use Rattle.line_record.proofs.Record.{send-length}
-use Rattle.line_maker.specs.Files.{offset_bytes, circuit_bytes, lines_size, table_size}
-
--- ---- a mask has few offsets
-
-places_few : (k s m : ℕ) → length (places k s m) ≤ k
-unfolding places
-places_few zero s m = omega arith
-places_few (suc k) s m = go (eqb (m % 2) 1) (places_few k (suc s) (m / 2))
-  where
-    go : (b : Bool) → length (places k (suc s) (m / 2)) ≤ k → length (cond b (s ∷ places k (suc s) (m / 2)) (places k (suc s) (m / 2))) ≤ suc k
-    go true h = omega arith
-    go false h = omega arith
-
-offsets_few : (m : ℕ) → length (offsets m) ≤ cycle_most
-unfolding offsets
-offsets_few m = places_few cycle_most 0 m
-
-pub circuit_few : {p : List ℕ} {c : ℕ} → InBounds p c → (mask : ℕ) {slots sends : ℕ} → slots ≡ length (offsets mask) → sends ≡ send_count p c
-    → slots * sends ≤ cycle_most * hops_most
-circuit_few f mask is many = mul-le-mul {n₂ = cycle_most} {m₂ = hops_most} (omega (arith, offsets_few mask)) (omega (arith, f.sends_few))
-
--- ---- the bytes of the lines
+use Rattle.line_record.specs.Record.{line_of}
+use Rattle.line_record.proofs.Record.{line_record-length}
+use Rattle.line_maker.specs.Files.{send_bytes, offset_bytes, circuit_bytes, lines_size, table_size}
 
 -- lists of one length
-even_map : (g : ℕ → List ℕ) (l : List ℕ) (k : ℕ) → ((a : ℕ) → length (g a) ≡ k) → length (joined (map g l)) ≡ length l * k
+even_map : {A : Type 0} (g : A → List ℕ) (l : List A) (k : ℕ) → ((a : A) → length (g a) ≡ k) → length (joined (map g l)) ≡ length l * k
 unfolding joined
 even_map g [] k e = omega arith
 even_map g (a ∷ l) k e = omega (arith, length-append (g a) (joined (map g l)), e a, even_map g l k e)
 
-even_up_to : (n : ℕ) (f : ℕ → List ℕ) (k : ℕ) → ((i : ℕ) → length (f i) ≡ k) → length (joined (up_to n f)) ≡ n * k
-even_up_to n f k e = rw (← map-up_to f n (λ i. i)) (even_map f (up_to n (λ i. i)) k e ∙ ap (λ x. x * k) (length-up_to n _))
+module _ (x : CircuitPlan) where
+  pub send_bytes-length : (a : ℕ) (s : Send) → length (send_bytes x a s) ≡ head_size + line_size
+  send_bytes-length a s = line_record-length (line_of x.cycle s a)
 
-module _ (p : List ℕ) (c : ℕ) where
-  offset_length : (a : ℕ) → length (offset_bytes p c a) ≡ send_count p c * (head_size + line_size)
+  offset_length : (a : ℕ) → length (offset_bytes x a) ≡ length x.sends * (head_size + line_size)
   unfolding offset_bytes
-  offset_length a = even_up_to (send_count p c) (send_bytes p c a) (head_size + line_size) (send-length p c a)
+  offset_length a = even_map (send_bytes x a) x.sends (head_size + line_size) (send_bytes-length a)
 
-  circuit_length : (mask : ℕ) → length (circuit_bytes p c mask) ≡ length (offsets mask) * send_count p c * (head_size + line_size)
+  circuit_length : (mask : ℕ) → length (circuit_bytes x mask) ≡ lines_size x mask
   unfolding circuit_bytes
-  circuit_length mask = even_map (offset_bytes p c) (offsets mask) (send_count p c * (head_size + line_size)) offset_length ∙ omega arith
+  circuit_length mask = even_map (offset_bytes x) (offsets mask) (length x.sends * (head_size + line_size)) offset_length ∙ omega arith
 
-module _ (p m : List ℕ) where
+module _ (p : ArrayVec Circuit) (m : List ℕ) where
   -- the lines of circuit c, and of all
   abbrev pub part_of : ℕ → List ℕ
-  part_of c = circuit_bytes p c (get_or m c 0)
+  part_of c = circuit_bytes (circuit_in p c) (get_or m c 0)
 
   abbrev pub parts : List ℕ
   parts = joined (up_to (circuits_in p) part_of)
@@ -67,14 +42,19 @@ module _ (p m : List ℕ) where
   pub table-length : table_size p m ≡ length parts + head_size
   unfolding table_size
   table-length =
-      omega (arith, joined_length (circuits_in p) part_of, ap sum (up_to_same (circuits_in p) (λ c. length (part_of c)) (lines_size p m) (λ c h. circuit_length p c (get_or m c 0))))
+      omega (arith, joined_length (circuits_in p) part_of, ap sum (up_to_same (circuits_in p) (λ c. length (part_of c)) (λ c. lines_size (circuit_in p c) (get_or m c 0)) (λ c h. circuit_length (circuit_in p c) (get_or m c 0))))
 
-  -- ---- for the loop that sums
+  -- ---- how long the file is with the lines of the circuits below c alone
+  abbrev pub size_before : ℕ → ℕ
+  size_before c = head_size + sum (up_to c (λ i. lines_size (circuit_in p i) (get_or m i 0)))
 
-  pub total_more : (c : ℕ) {total slots sends : ℕ} → total ≡ head_size + sum (up_to c (lines_size p m)) → slots ≡ length (offsets (get_or m c 0)) → sends ≡ send_count p c
-      → total + slots * sends * (head_size + line_size) ≡ head_size + sum (up_to (c + 1) (lines_size p m))
-  total_more c e is many = rw (is, many) (omega (arith, sum_more c (lines_size p m)))
+  pub size_before-none : size_before 0 ≡ head_size
+  unfolding up_to sum
+  size_before-none = refl
 
-  pub total_end : {c n total : ℕ} → c ≡ n → n ≡ circuits_in p → total ≡ head_size + sum (up_to c (lines_size p m)) → total ≡ table_size p m
+  pub size_before-more : (c : ℕ) → size_before (c + 1) ≡ size_before c + lines_size (circuit_in p c) (get_or m c 0)
+  size_before-more c = omega (arith, sum_more c (λ i. lines_size (circuit_in p i) (get_or m i 0)))
+
+  pub size_before-all : table_size p m ≡ size_before (circuits_in p)
   unfolding table_size
-  total_end h is e = e ∙ ap (λ k. head_size + sum (up_to k (lines_size p m))) (h ∙ is)
+  size_before-all = refl

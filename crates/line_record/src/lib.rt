@@ -1,43 +1,57 @@
-// One line of the table, laid into an area with room as the record of a send. Assumes nothing.
+// One line of the table: what a send needs with an offset, as bytes, and laid into an area with room. Assumes nothing.
 #![tactic(auto)]
 
 ghost use Rattle.std.specs.Prelude.{◌≡◌, ◌+◌, ◌≤◌, ◌<◌, length};
 ghost use Rattle.model.specs.Sizes.{head_size, line_size, cycle_most};
-ghost use Rattle.plan.specs.Plan.{send_count, InBounds};
-ghost use Rattle.file_writer.specs.Pasting.{pasted, Laid};
-ghost use Rattle.line_record.specs.Record.{line_record, send_bytes};
+ghost use Rattle.file_writer.specs.Pasting.{Laid};
+ghost use Rattle.line_record.specs.Record.{line_of, line_record};
 
-use model::{IN_AT, LINE_BYTES, LINE_KIND, LINE_SIZE, OUT_AT, ROUTER_AT};
-use plan::Plan;
+use model::{Kind, LINE_BYTES, LINE_SIZE, Line, Send};
+use plan::Circuit;
 
-// The record of a line.
-fn put_line(out: &mut [u8], at: usize, router: u8, period: u8, slot: u8, inp: usize, to: usize)
-    requires { at + (head_size + line_size) ≤ length out.old }
-    ensures { out.new ≡ pasted out.old at (line_record router period slot inp to) }
+// The line that a circuit's send needs with an offset.
+pub fn line_of(circuit: &Circuit, send: &Send, offset: u32) -> Line
+    requires { offset < cycle_most }
+    ensures { result ≡ line_of circuit.now.cycle.slots send.now offset }
 {
-    file_writer::put_head(out, at, LINE_SIZE, LINE_KIND);
-    file_writer::put_four(out, at + ROUTER_AT, router, period, slot, 0);
-    file_writer::put_word(out, at + IN_AT, inp);
-    file_writer::put_word(out, at + OUT_AT, to);
+    let cycle = circuit.cycle.slots;
+    let slot = ((offset as usize + usize::from(send.after)) % cycle) as u8;
+    Line {
+        router: send.router,
+        period: cycle as u8,
+        slot,
+        inp: send.inp,
+        out: send.out,
+    }
 }
 
-// The line of send j of circuit c with offset a; and the place behind it.
-pub fn put_send(p: &Plan, c: usize, a: u32, j: usize, out: &mut [u8], at: usize) -> usize
-    requires in_bounds { InBounds p.now c × (a < cycle_most) × (j < send_count p.now c) }
-    requires line_size_in_bounds { at + (head_size + line_size) ≤ length out.old }
-    ensures { Laid out.old at (send_bytes p.now c a j) out.new result }
+// The record of a line.
+fn record_of(line: Line) -> [u8; LINE_BYTES]
+    ensures { result ≡ line_record line }
 {
-    let d = plan::cycle(p, c);
-    let router = plan::router(p, c, j) as u8;
-    let slot = ((a as usize + plan::sent(p, c, j)) % d) as u8;
-    put_line(
-        out,
-        at,
-        router,
-        d as u8,
-        slot,
-        plan::inp(p, c, j),
-        plan::out(p, c, j),
-    );
-    at + LINE_BYTES
+    let [len_low, len_high, kind_low, kind_high] = file_writer::head(LINE_SIZE as u16, Kind::Line);
+    let [inp_low, inp_high] = line.inp.to_le_bytes();
+    let [out_low, out_high] = line.out.to_le_bytes();
+    [
+        len_low,
+        len_high,
+        kind_low,
+        kind_high,
+        line.router,
+        line.period,
+        line.slot,
+        0,
+        inp_low,
+        inp_high,
+        out_low,
+        out_high,
+    ]
+}
+
+// Lays a line into the area from `at` on; and the place behind it.
+pub fn put_line(out: &mut [u8], at: usize, line: Line) -> usize
+    requires { at + (head_size + line_size) ≤ length out.old }
+    ensures { Laid out.old at (line_record line) out.new result }
+{
+    file_writer::put(out, at, &record_of(line))
 }

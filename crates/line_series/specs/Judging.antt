@@ -1,74 +1,50 @@
--- The lines that meet a series, over the bytes of a table file: which they are, and what is told of the series. Assumes nothing: these are definitions.
-use Rattle.std.specs.Prelude.{ℕ, ◌+◌, ◌%◌, ◌<◌, Bool, cond, List, ltb, eqb}
-use Rattle.std.proofs.Math.Option.{Option}
-use Rattle.model.specs.Sizes.{lines_most}
-use Rattle.model.specs.Divisor.{gcd}
-use Rattle.model.specs.Tests.{◌and◌, neg, least, given, ◌else◌}
+-- The lines that meet a series, and what is told of it. Assumes nothing: these are definitions.
+use Rattle.std.specs.Prelude.{ℕ, ◌+◌, Bool, cond, List, [], ◌∷◌, Option, None, Some, eqb}
+use Rattle.std.proofs.Math.Option.{Option as Found, some}
+use Rattle.std.specs.List.{find}
+use Rattle.model.specs.Tests.{◌and◌, neg, given}
 use Rattle.model.specs.declared.Answer.{Answer}
 use Rattle.model.specs.declared.Answer.TheVariants.{Unserved, Partly, Twice, Astray}
-use Rattle.num_divisor.specs.Common.{Cycle}
-use Rattle.plan.specs.Plan.{cycle_in, port_in, out_in, sent_in}
-use Rattle.line_chains.specs.Chains.{line_in, has}
+use Rattle.model.specs.declared.Send.{Send}
+use Rattle.plan.specs.Ports.{port_of}
+use Rattle.line_chains.specs.Chains.{line_in, lines_at}
+use Rattle.line_series.specs.Matching.{agrees, covers}
 use Rattle.line_series.specs.declared.Met.{Met}
 
--- ---- the first line that is wanted, of those passed
+-- the second that passes
+abbrev pub second : (ℕ → Bool) → List ℕ → Option ℕ
+second p [] = None
+second p (x ∷ xs) = cond (p x) (find p xs) (second p xs)
 
--- the first number below m that passes; and n where there is none
-unfoldable pub seen : ℕ → (ℕ → Bool) → ℕ → ℕ
-seen n p m = cond (ltb (least m p) m) (least m p) n
+-- ---- lines by number against the slots start, start + cycle, ..
 
--- the first that passes, where `before` is the first of those before m, and n where there is none
-abbrev pub noted : (n before m : ℕ) → Bool → ℕ
-noted n before m passes = cond passes (cond (ltb before n) before m) before
+module _ (t : List ℕ) (cycle start : ℕ) where
+  -- line m meets them; it does without serving them whole
+  unfoldable pub meets : ℕ → Bool
+  meets m = agrees cycle start (line_in t m)
 
--- ---- lines held against a series
+  unfoldable pub serves_part : ℕ → Bool
+  serves_part m = meets m and neg (covers cycle start (line_in t m))
 
--- what is asked of line m to hold it against a series
-pub record Held (t : List ℕ) (m cycle : ℕ) : Type 0 where
-  pub few : m < lines_most
-  pub cycle_good : Cycle cycle
-  pub period_good : Cycle (line_in t m).period
-  pub slot_good : (line_in t m).slot < (line_in t m).period
+  -- of these lines
+  abbrev pub met_of : List ℕ → Met
+  met_of ms = record { one = find meets ms; part = find serves_part ms; two = second meets ms }
 
-module _ (t : List ℕ) where
-  -- some slot of the series matches line m; and every slot does
-  unfoldable pub agrees_of : (cycle start m : ℕ) → Bool
-  agrees_of cycle start m = let g = gcd cycle (line_in t m).period in eqb (start % g) ((line_in t m).slot % g)
+-- ---- the tests 13, 14, 15, 16 in order
 
-  unfoldable pub covers_of : (cycle start m : ℕ) → Bool
-  covers_of cycle start m = eqb (cycle % (line_in t m).period) 0 and eqb (start % (line_in t m).period) (line_in t m).slot
+-- where line m leads to led m
+abbrev pub told : (led : ℕ → ℕ) (out c a j : ℕ) (one part two : Option ℕ) → Found Answer
+told led out c a j None part two = some (Unserved c a j)
+told led out c a j (Some m) (Some k) two = some (Partly c a j k)
+told led out c a j (Some m) None (Some k) = some (Twice c a j k)
+told led out c a j (Some m) None None = given (neg (eqb (led m) out)) (Astray c a j m)
 
-  -- line m meets the series at this port; it does without serving it whole; it does behind the first that does
-  unfoldable pub meets_at : (port cycle start m : ℕ) → Bool
-  meets_at port cycle start m = has t port m and agrees_of cycle start m
-
-  unfoldable pub part_at : (port cycle start m : ℕ) → Bool
-  part_at port cycle start m = meets_at port cycle start m and neg (covers_of cycle start m)
-
-  module _ (lines port cycle start : ℕ) where
-    unfoldable pub one_of : ℕ
-    one_of = least lines (meets_at port cycle start)
-
-    unfoldable pub again_at : ℕ → Bool
-    again_at m = ltb one_of m and meets_at port cycle start m
-
-    -- the first of each, `lines` where there is none
-    unfoldable pub met_by : Met
-    met_by = record { one = one_of; part = least lines (part_at port cycle start); two = least lines again_at }
-
--- the tests 13, 14, 15, 16 of series c, a, j in order, where line `one` leads to `led`
-abbrev pub fault_by : (lines : ℕ) → Met → (led out c a j : ℕ) → Option Answer
-fault_by lines met led out c a j =
-    given (neg (ltb met.one lines)) (Unserved c a j)
-    else given (ltb met.part lines) (Partly c a j met.part)
-    else given (ltb met.two lines) (Twice c a j met.two)
-    else given (neg (eqb led out)) (Astray c a j met.one)
-
-unfoldable pub fault_at : (t : List ℕ) (lines port cycle start out c a j : ℕ) → Option Answer
+-- what is told of the slots start, start + cycle, .. at a port, to go to out, as those of circuit c, offset a and hop j
+unfoldable pub fault_at : (t : List ℕ) (lines port cycle start out c a j : ℕ) → Found Answer
 fault_at t lines port cycle start out c a j =
-    let met = met_by t lines port cycle start in
-    fault_by lines met (line_in t met.one).out out c a j
+    let met = met_of t cycle start (lines_at t lines port) in
+    told (λ m. (line_in t m).out) out c a j met.one met.part met.two
 
--- of hop j of circuit c of a plan, with offset a
-unfoldable pub hop_fault : (p t : List ℕ) (lines c a j : ℕ) → Option Answer
-hop_fault p t lines c a j = fault_at t lines (port_in p c j) (cycle_in p c) (a + sent_in p c j) (out_in p c j) c a j
+-- and of those of a send with offset a
+abbrev pub send_fault : (t : List ℕ) (lines cycle : ℕ) → Send → (c a j : ℕ) → Found Answer
+send_fault t lines cycle s c a j = fault_at t lines (port_of s.router s.inp) cycle (a + s.after) s.out c a j

@@ -9,7 +9,8 @@ use Rattle.model.specs.Tests.{joined}
 use Rattle.model.specs.Bytes.{AreBytes, byte_at, word, record_of}
 use Rattle.model.specs.Network.{Request, no_link, no_circuit, circuit_of}
 use Rattle.model.specs.Holding.{offsets_of}
-use Rattle.model.specs.Lines.{Line, no_line, line_of}
+use Rattle.model.specs.Lines.{no_line, line_of}
+use Rattle.model.specs.declared.Line.{Line}
 use Rattle.model.specs.Jobs.{link_bytes, circuit_bytes, request_bytes, assignment_bytes, line_body, table_bytes}
 use Rattle.model.specs.Sound.{SoundRequest, SoundOffsets, SoundLine, SoundTable}
 use Rattle.model.proofs.Sound.{rises_at}

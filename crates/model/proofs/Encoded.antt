@@ -8,20 +8,20 @@ use native.Mathlib.Nat.{zero-lt-suc, not-suc-le-zero, le_of_suc-le-suc, mod-eq_o
 use native.Mathlib.Omega.{arith}
 use borrow.Author.Tests.{ltb-false}
 use lib.ListN.{length, get_or, drop, drop_of_length-le}
-use Rattle.model.specs.Sizes.{head_size, counts_size, link_size, hop_size, line_size, network_kind, circuit_kind, offsets_kind, line_kind, end_kind, circuits_most, lines_most, request_file, assignment_file, table_file}
+use Rattle.std.specs.declared.result.Result.TheVariants.{Ok, Err}
+use Rattle.model.specs.Sizes.{head_size, counts_size, link_size, hop_size, line_size, network_kind, circuit_kind, offsets_kind, line_kind, end_kind, circuits_most, lines_most}
 use Rattle.model.specs.Tests.{joined, up_to}
 use Rattle.model.specs.Bytes.{AreBytes, byte_at, word_at, length_at, kind_at, behind, word, record_of}
 use Rattle.model.specs.Network.{Network, Request}
-use Rattle.model.specs.Reading.{have, walk, Walked, complete, stopped, starts, routers_of, buffers_of, to_place, link_at, network_verdict, hops_at, hop_at, circuit_at, circuit_spare_at, circuit_verdict, request_step, request_walk, request, offset_at, offsets_at, offsets_verdict, assignment_step, assignment_walk, assignment, line_spare_at, line_at, line_verdict, table_step, table_walk, table}
+use Rattle.model.specs.Reading.{Verdict, faultless, ended, have, walk, Walked, complete, stopped, starts, routers_of, buffers_of, to_place, link_at, network_verdict, hops_at, hop_at, circuit_at, circuit_spare_at, circuit_verdict, request_step, request_walk, request, offset_at, offsets_at, offsets_verdict, assignment_step, assignment_walk, assignment, line_spare_at, line_at, line_verdict, table_step, table_walk, table}
 use Rattle.model.specs.Answers.{damage}
 use Rattle.model.specs.Jobs.{link_bytes, network_bytes, circuit_bytes, request_bytes, assignment_bytes, line_body, table_bytes, request_fault, assignment_fault}
-use Rattle.model.specs.declared.Verdict.{Verdict}
-use Rattle.model.specs.declared.Verdict.TheVariants.{Fine, Faulty}
-use Rattle.model.specs.declared.Step.TheVariants.{End}
 use Rattle.model.proofs.Tests.{same, length-up_to, map-up_to}
 use Rattle.model.proofs.Records.{Ends, step_says, Comes, walk_comes, step_in, passes_at}
 use Rattle.model.proofs.Written.{length_pieces, file_of}
 use Rattle.model.proofs.Readers.{network_tests_lem, circuit_tests_lem, early, offsets_tests_lem, line_tests_lem, walked_by}
+use Rattle.model.specs.declared.File.{File}
+use Rattle.model.specs.declared.File.TheVariants.{Request as RequestFile, Assignment as AssignmentFile, Table as TableFile}
 
 -- ---- the bytes of a file from a place on
 
@@ -107,7 +107,7 @@ module _ (s : List ℕ) where
     -- ---- a walk to the end: a record for each thing that is read, and the end
 
     module _ {A : Type 0} (kind : ℕ) (body : A → List ℕ) (before_end : ℕ → Bool) (verdict : ℕ → ℕ → Verdict) (read : ℕ → A)
-        (each : (n p : ℕ) → verdict n p ≡ Fine → head_size ≤ have s p → kind_at s p ≡ kind → drop p s ≡ record_of kind (body (read p)) ++ drop (behind s p) s)
+        (each : (n p : ℕ) → verdict n p ≡ faultless → head_size ≤ have s p → kind_at s p ≡ kind → drop p s ≡ record_of kind (body (read p)) ++ drop (behind s p) s)
       where
         chain : (l : List ℕ) (last start : ℕ) → get_or (l ++ (last ∷ [])) 0 0 ≡ start
             → ((n : ℕ) → n < length l → drop (get_or l n 0) s ≡ record_of kind (body (read (get_or l n 0))) ++ drop (get_or (l ++ (last ∷ [])) (suc n) 0) s)
@@ -120,13 +120,13 @@ module _ (s : List ℕ) where
             ∙ ap (λ l. record_of kind (body (read x)) ++ l) (chain l last (get_or (l ++ (last ∷ [])) 0 0) refl (λ n k. h (suc n) (suc-le-suc k)))
             ∙ sym (append_assoc (record_of kind (body (read x))) _ _)
 
-        pub file_here : (file k start : ℕ) → damage file (walk k (step_in kind before_end verdict s) [] start) ≡ none
+        pub file_here : (file : File) (k start : ℕ) → damage file (walk k (step_in kind before_end verdict s) [] start) ≡ none
             → drop start s ≡ file_of kind body (map read (starts (walk k (step_in kind before_end verdict s) [] start)))
         file_here file k start e = go (walk k (step_in kind before_end verdict s) [] start) e (walk_comes (step_in kind before_end verdict s) k start _ refl)
           where
             go : (w : Walked) → damage file w ≡ none → Comes (step_in kind before_end verdict s) k start w → drop start s ≡ file_of kind body (map read (starts w))
             go (complete l) e c =
-                let x = step_says kind (before_end (length l)) (verdict (length l) c.last) s c.last End c.end in
+                let x = step_says kind (before_end (length l)) (verdict (length l) c.last) s c.last ended c.end in
                 chain l c.last start c.row.begins
                 (λ n h.
                 let y = passes_at kind before_end verdict s c.row n h in
@@ -138,7 +138,7 @@ module _ (s : List ℕ) where
 -- ---- the table
 
 module _ (net : Network) (s : List ℕ) (bytes : AreBytes s) where
-  line_here : (n p : ℕ) → line_verdict net s n p ≡ Fine → head_size ≤ have s p → kind_at s p ≡ line_kind
+  line_here : (n p : ℕ) → line_verdict net s n p ≡ faultless → head_size ≤ have s p → kind_at s p ≡ line_kind
       → drop p s ≡ record_of line_kind (line_body (line_at s p)) ++ drop (behind s p) s
   line_here n p fine head kind_is =
       let t = line_tests_lem net s n p fine in
@@ -155,14 +155,14 @@ module _ (net : Network) (s : List ℕ) (bytes : AreBytes s) where
       (from_word s bytes (p + 8) (p + 10) (omega arith) (omega arith)
       ∙ ap (λ l. word (word_at s (p + 8)) ++ l) (from_word s bytes (p + 10) (behind s p) (omega arith) (omega arith)))))
 
-  pub table_encoded : damage table_file (table_walk net s) ≡ none → s ≡ table_bytes (table net s)
+  pub table_encoded : damage TableFile (table_walk net s) ≡ none → s ≡ table_bytes (table net s)
   unfolding table_walk table_step table table_bytes
-  table_encoded e = file_here s bytes line_kind line_body (λ n. false) (line_verdict net s) (line_at s) line_here table_file (suc lines_most) 0 e
+  table_encoded e = file_here s bytes line_kind line_body (λ n. false) (line_verdict net s) (line_at s) line_here TableFile (suc lines_most) 0 e
 
 -- ---- the assignment
 
 module _ (q : Request) (s : List ℕ) (bytes : AreBytes s) where
-  offsets_here : (n p : ℕ) → offsets_verdict q s n p ≡ Fine → head_size ≤ have s p → kind_at s p ≡ offsets_kind
+  offsets_here : (n p : ℕ) → offsets_verdict q s n p ≡ faultless → head_size ≤ have s p → kind_at s p ≡ offsets_kind
       → drop p s ≡ record_of offsets_kind (offsets_at s p) ++ drop (behind s p) s
   offsets_here n p fine head kind_is =
       let room : head_size + length_at s p ≤ have s p = ltb-false _ _ (offsets_tests_lem q s n p fine).0.1.1.1.0 in
@@ -171,7 +171,7 @@ module _ (q : Request) (s : List ℕ) (bytes : AreBytes s) where
 
   pub assignment_encoded : assignment_fault q s ≡ none → s ≡ assignment_bytes (assignment q s)
   unfolding assignment_walk assignment_step assignment assignment_bytes
-  assignment_encoded e = file_here s bytes offsets_kind (λ x. x) (early q s) (offsets_verdict q s) (offsets_at s) offsets_here assignment_file (suc circuits_most) 0 e
+  assignment_encoded e = file_here s bytes offsets_kind (λ x. x) (early q s) (offsets_verdict q s) (offsets_at s) offsets_here AssignmentFile (suc circuits_most) 0 e
 
 -- ---- the request
 
@@ -187,7 +187,7 @@ module _ (s : List ℕ) (bytes : AreBytes s) where
       from_pairs s (hops_at s p) (p + 8) (λ j. word (hop_at s p j)) (λ j h. from_word s bytes (p + 8 + 2 * j) (p + 8 + 2 * j + 2) refl (omega arith))
       ∙ ap (λ l. joined l ++ drop (p + 8 + 2 * hops_at s p) s) (sym (map-up_to word (hops_at s p) (hop_at s p)))
 
-  circuit_here : (n p : ℕ) → circuit_verdict s n p ≡ Fine → head_size ≤ have s p → kind_at s p ≡ circuit_kind
+  circuit_here : (n p : ℕ) → circuit_verdict s n p ≡ faultless → head_size ≤ have s p → kind_at s p ≡ circuit_kind
       → drop p s ≡ record_of circuit_kind (circuit_bytes (circuit_at s p)) ++ drop (behind s p) s
   circuit_here n p fine head kind_is =
       let t = circuit_tests_lem s n p fine in
@@ -219,7 +219,7 @@ module _ (s : List ℕ) (bytes : AreBytes s) where
           ∙ ap₂ (λ (f : ℕ) l. f ∷ l) refl
           (from_byte s (8 + 2 * b + 1) (8 + 2 * b + 2) (omega arith) (omega arith) ∙ ap (λ p. byte_at s p ∷ drop (8 + 2 * b + 2) s) place)
 
-  network_here : network_verdict s ≡ Fine → drop 0 s ≡ record_of network_kind (network_bytes (request s).network) ++ drop (behind s 0) s
+  network_here : network_verdict s ≡ faultless → drop 0 s ≡ record_of network_kind (network_bytes (request s).network) ++ drop (behind s 0) s
   unfolding request
   network_here fine =
       let t = (network_tests_lem s fine).0 in
@@ -236,14 +236,14 @@ module _ (s : List ℕ) (bytes : AreBytes s) where
       ∙ ap₂ (λ n l. word n ++ l) (sym many)
       (links_here (omega arith) ∙ ap (λ q. joined (map link_bytes (up_to (buffers_of s) (link_at s))) ++ drop q s) next)))
 
-  encoded_by : (v : Verdict) → network_verdict s ≡ v → damage request_file (walked_by s v) ≡ none
+  encoded_by : (v : Verdict) → network_verdict s ≡ v → damage RequestFile (walked_by s v) ≡ none
       → s ≡ record_of network_kind (network_bytes (request s).network) ++ file_of circuit_kind circuit_bytes (map (circuit_at s) (starts (walked_by s v)))
   unfolding request_step
-  encoded_by Fine fine e =
+  encoded_by (Ok u) fine e =
       network_here fine
       ∙ ap (λ l. record_of network_kind (network_bytes (request s).network) ++ l)
-      (file_here s bytes circuit_kind circuit_bytes (λ n. false) (circuit_verdict s) (circuit_at s) circuit_here request_file (suc circuits_most) (behind s 0) e)
-  encoded_by (Faulty f) fine e = absurd (none-ne-some _ (sym e))
+      (file_here s bytes circuit_kind circuit_bytes (λ n. false) (circuit_verdict s) (circuit_at s) circuit_here RequestFile (suc circuits_most) (behind s 0) e)
+  encoded_by (Err f) fine e = absurd (none-ne-some _ (sym e))
 
   walk_is : request_walk s ≡ walked_by s (network_verdict s)
   unfolding request_walk

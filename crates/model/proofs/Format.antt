@@ -6,10 +6,10 @@ use mathlib.Core.Logic.{◌↔◌}
 use mathlib.Core.List.{List}
 use mathlib.Core.Option.{none}
 use lib.ListN.{length}
-use Rattle.model.specs.Sizes.{buffers_most, table_file}
+use Rattle.model.specs.Sizes.{buffers_most}
 use Rattle.model.specs.Bytes.{AreBytes}
 use Rattle.model.specs.Network.{Network, Request}
-use Rattle.model.specs.Lines.{Line}
+use Rattle.model.specs.declared.Line.{Line}
 use Rattle.model.specs.Reading.{request, assignment, table_walk, table}
 use Rattle.model.specs.Answers.{damage}
 use Rattle.model.specs.Jobs.{request_bytes, assignment_bytes, table_bytes, request_fault, assignment_fault}
@@ -18,6 +18,7 @@ use Rattle.model.proofs.Readers.{request_sound, offsets_sound, table_sound}
 use Rattle.model.proofs.Encoded.{request_encoded, assignment_encoded, table_encoded}
 use Rattle.model.proofs.Writes.{assignment_back, table_back}
 use Rattle.model.proofs.RequestBack.{request_back}
+use Rattle.model.specs.declared.File.TheVariants.{Table as TableFile}
 
 -- ---- the request
 
@@ -45,7 +46,7 @@ module _ (q : Request) (sound : SoundRequest q) where
 -- ---- the table over a network
 
 module _ (net : Network) (few : length net.links ≤ buffers_most) where
-  pub table_format : (s : List ℕ) → AreBytes s → (damage table_file (table_walk net s) ≡ none) ↔ ((t : List Line) × SoundTable net t × (s ≡ table_bytes t))
+  pub table_format : (s : List ℕ) → AreBytes s → (damage TableFile (table_walk net s) ≡ none) ↔ ((t : List Line) × SoundTable net t × (s ≡ table_bytes t))
   table_format s bytes = (
     λ e. (table net s, table_sound net s e, table_encoded net s bytes e),
     λ r. rw r.2 (table_back net r.0 few r.1).0,

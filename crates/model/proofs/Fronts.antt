@@ -12,26 +12,25 @@ use borrow.Author.Tests.{ltb-false, leb-false, lt-ltb, le-ltb, le-leb}
 use lib.Dec.{ltb, leb, eqb}
 use lib.ListN.{length, take, length-append, length-take}
 use lib.Seq.{take_all, get_or-take}
-use Rattle.model.specs.Sizes.{request_file, assignment_file, table_file, request_most, assignment_most, table_most, head_size, counts_size, link_size, hop_size, line_size, buffers_most, circuits_most, hops_most, cycle_most, lines_most, circuit_kind, offsets_kind, line_kind}
+use Rattle.std.specs.declared.option.Option.TheVariants.{Some, None}
+use Rattle.std.specs.declared.result.Result.TheVariants.{Ok, Err}
+use Rattle.model.specs.Sizes.{request_most, assignment_most, table_most, head_size, counts_size, link_size, hop_size, line_size, buffers_most, circuits_most, hops_most, cycle_most, lines_most, circuit_kind, offsets_kind, line_kind}
 use Rattle.model.specs.Tests.{◌and◌, neg, some?, ◌else◌, or_else}
 use Rattle.model.specs.Bytes.{byte_at, word_at, length_at, kind_at, behind}
 use Rattle.model.specs.Network.{Network, Request, circuit_of}
 use Rattle.model.specs.Holding.{clash_fault}
 use Rattle.model.specs.Lines.{lines_fault, lines_for}
-use Rattle.model.specs.Reading.{judge, and_then, have, onward, end_step, step_at, Walked, go_on, walk, routers_of, buffers_of, from_place, to_place, from_of, to_of, same_pair, bad_link, network_rows, network_verdict, path_place, cycle_at, demand_at, hops_at, hop_at, bad_hop, repeated, gap, broken_at, circuit_rows, circuit_body_rows, circuit_verdict, request_step, request_walk, request, bad_offset, offsets_rows, offsets_verdict, assignment_walk, assignment, router_at, period_at, slot_at, line_spare_at, in_at, out_at, line_rows, line_verdict, table_walk, table}
+use Rattle.model.specs.Reading.{Verdict, Step, faultless, next_at, judge, and_then, have, onward, end_step, step_at, Walked, go_on, walk, routers_of, buffers_of, from_place, to_place, from_of, to_of, same_pair, bad_link, network_rows, network_verdict, path_place, cycle_at, demand_at, hops_at, hop_at, bad_hop, repeated, gap, broken_at, circuit_rows, circuit_body_rows, circuit_verdict, request_step, request_walk, request, bad_offset, offsets_rows, offsets_verdict, assignment_walk, assignment, router_at, period_at, slot_at, line_spare_at, in_at, out_at, line_rows, line_verdict, table_walk, table}
 use Rattle.model.specs.Answers.{damage}
 use Rattle.model.specs.Search.{reply, whole}
 use Rattle.model.specs.Jobs.{Result, keeps, writes, unless, request_fault, assignment_fault, table_fault, short_fault, assignment_size, table_bytes, read_request, settled, allocate, check_assignment, make_tables, check_tables, Call, read, allot, check, make, verify, result_of}
 use Rattle.model.specs.declared.Answer.{Answer}
 use Rattle.model.specs.declared.Answer.TheVariants.{Done, Made}
 use Rattle.model.specs.declared.Fault.{Fault}
-use Rattle.model.specs.declared.Verdict.{Verdict}
-use Rattle.model.specs.declared.Verdict.TheVariants.{Fine, Faulty}
-use Rattle.model.specs.declared.Step.{Step}
-use Rattle.model.specs.declared.Step.TheVariants.{Next, End, Refused}
 use Rattle.model.proofs.Tests.{same, some_same, some-false, else_none}
 use Rattle.model.proofs.Records.{passed, step_says, step_in, length_near}
 use Rattle.model.proofs.Readers.{network_tests, link_tests, network_tests_lem, circuit_tests, circuit_tests_lem, walked_by, request_sound, offsets_tests, rising_tests, early, offsets_tests_lem, line_tests, line_tests_lem}
+use Rattle.model.specs.declared.File.TheVariants.{Request as RequestFile, Assignment as AssignmentFile, Table as TableFile}
 
 -- ---- tests in order that agree
 
@@ -42,25 +41,25 @@ data Agree : List (Bool × Fault) → List (Bool × Fault) → Type 0 where
 
 judge_same : (rows more : List (Bool × Fault)) → Agree rows more → judge rows ≡ judge more
 judge_same _ _ rest = refl
-judge_same _ _ (row {b} {f} {rows} {more} e agree) = go b (λ h. judge_same rows more (agree h)) ∙ ap (λ d. cond d (Faulty f) (judge more)) e
+judge_same _ _ (row {b} {f} {rows} {more} e agree) = go b (λ h. judge_same rows more (agree h)) ∙ ap (λ d. cond d (Err f) (judge more)) e
   where
-    go : (b : Bool) → (b ≡ false → judge rows ≡ judge more) → cond b (Faulty f) (judge rows) ≡ cond b (Faulty f) (judge more)
+    go : (b : Bool) → (b ≡ false → judge rows ≡ judge more) → cond b (Err f) (judge rows) ≡ cond b (Err f) (judge more)
     go true h = refl
     go false h = h refl
 
-and_same : {v v' w w' : Verdict} → v ≡ v' → (v ≡ Fine → w ≡ w') → and_then v w ≡ and_then v' w'
+and_same : {v v' w w' : Verdict} → v ≡ v' → (v ≡ faultless → w ≡ w') → and_then v w ≡ and_then v' w'
 and_same {v} {w} {w'} e f = go v f ∙ ap (λ u. and_then u w') e
   where
-    go : (v : Verdict) → (v ≡ Fine → w ≡ w') → and_then v w ≡ and_then v w'
-    go Fine f = f refl
-    go (Faulty g) f = refl
+    go : (v : Verdict) → (v ≡ faultless → w ≡ w') → and_then v w ≡ and_then v w'
+    go (Ok u) f = f refl
+    go (Err g) f = refl
 
 -- ---- walks that agree
 
 -- two walks whose steps agree wherever the first comes: up to record number `most`, and at most `size` bytes onward with each
 module _ (one two : ℕ → ℕ → Step) (most start size : ℕ)
     (same_step : (n p : ℕ) → n ≤ most → p ≤ start + n * size → one n p ≡ two n p)
-    (near : (n p next : ℕ) → one n p ≡ Next next → next ≤ p + size) where
+    (near : (n p next : ℕ) → one n p ≡ next_at next → next ≤ p + size) where
   walk_same : (k : ℕ) (found : List ℕ) (p : ℕ) → length found + k ≤ suc most → p ≤ start + length found * size → walk k one found p ≡ walk k two found p
   unfolding walk
   walk_same zero found p h a = refl
@@ -76,9 +75,9 @@ module _ (one two : ℕ → ℕ → Step) (most start size : ℕ)
 
       go : (t : Step) → one (length found) p ≡ t → ((next : ℕ) → next ≤ start + suc (length found) * size → rest_of one next ≡ rest_of two next)
           → go_on t found (rest_of one) ≡ go_on t found (rest_of two)
-      go (Next next) e on = on next (omega (arith, near (length found) p next e))
-      go End e on = refl
-      go (Refused f r) e on = refl
+      go (Ok (Some next)) e on = on next (omega (arith, near (length found) p next e))
+      go (Ok None) e on = refl
+      go (Err d) e on = refl
 
 -- ---- files that are alike in front
 
@@ -120,8 +119,8 @@ module _ {most : ℕ} {s t : List ℕ} (alike : Alike most s t) where
   onward_same p {v} h e = go v ∙ ap (onward t p) e
     where
       go : (v : Verdict) → onward s p v ≡ onward t p v
-      go Fine = ap (λ n. Next (p + head_size + n)) (word_same p h)
-      go (Faulty f) = refl
+      go (Ok u) = ap (λ n. next_at (p + head_size + n)) (word_same p h)
+      go (Err f) = refl
 
   step_same : (kind : ℕ) (early : Bool) (p : ℕ) {v w : Verdict} → p + head_size ≤ most → v ≡ w → step_at kind early v s p ≡ step_at kind early w t p
   unfolding step_at end_step
@@ -132,7 +131,7 @@ module _ {most : ℕ} {s t : List ℕ} (alike : Alike most s t) where
 -- two such files, walked over records of one kind: at most so many, with bodies of at most `size` bytes
 module _ (kind : ℕ) (early : ℕ → Bool) (verdict other : ℕ → ℕ → Verdict) {most : ℕ} {s t : List ℕ} (alike : Alike most s t)
     (records start size : ℕ) (room : start + records * (head_size + size) + head_size ≤ most)
-    (small : (n p : ℕ) → verdict n p ≡ Fine → length_at s p ≤ size)
+    (small : (n p : ℕ) → verdict n p ≡ faultless → length_at s p ≤ size)
     (same-verdict : (n p : ℕ) → n ≤ records → p ≤ start + n * (head_size + size) → verdict n p ≡ other n p) where
   file_same : (p : ℕ) → p ≤ start → walk (suc records) (step_in kind early verdict s) [] p ≡ walk (suc records) (step_in kind early other t) [] p
   file_same p h =
@@ -141,15 +140,15 @@ module _ (kind : ℕ) (early : ℕ → Bool) (verdict other : ℕ → ℕ → Ve
       step : (n p : ℕ) → n ≤ records → p ≤ start + n * (head_size + size) → step_in kind early verdict s n p ≡ step_in kind early other t n p
       step n p h a = step_same alike kind (early n) p (omega (arith, mul-le-mul_right (head_size + size) h)) (same-verdict n p h a)
 
-      near : (n p next : ℕ) → step_in kind early verdict s n p ≡ Next next → next ≤ p + (head_size + size)
+      near : (n p next : ℕ) → step_in kind early verdict s n p ≡ next_at next → next ≤ p + (head_size + size)
       near n p next e =
-          let here = step_says kind (early n) (verdict n p) s p (Next next) e in
+          let here = step_says kind (early n) (verdict n p) s p (next_at next) e in
           omega (arith, here.next_is, small n p here.fine)
 
 -- ---- tables
 
 module _ (net : Network) where
-  small_line : (s : List ℕ) (n p : ℕ) → line_verdict net s n p ≡ Fine → length_at s p ≤ line_size
+  small_line : (s : List ℕ) (n p : ℕ) → line_verdict net s n p ≡ faultless → length_at s p ≤ line_size
   small_line s n p fine = omega (arith, same (length_at s p) line_size (line_tests_lem net s n p fine).1.0)
 
   module _ {s t : List ℕ} (alike : Alike table_most s t) where
@@ -184,14 +183,14 @@ module _ (net : Network) where
     table_same =
         file_same line_kind (λ _. false) (line_verdict net s) (line_verdict net t) alike lines_most 0 line_size (omega arith) (small_line s) line_same 0 (omega arith)
 
-  pub table_short : (s : List ℕ) → damage table_file (table_walk net s) ≡ none → length s ≤ table_most
+  pub table_short : (s : List ℕ) → damage TableFile (table_walk net s) ≡ none → length s ≤ table_most
   unfolding table_walk
-  table_short s e = length_near line_kind (λ _. false) (line_verdict net s) s line_size (small_line s) table_file lines_most 0 e
+  table_short s e = length_near line_kind (λ _. false) (line_verdict net s) s line_size (small_line s) TableFile lines_most 0 e
 
 -- ---- assignments
 
 module _ (q : Request) where
-  small_offsets : (s : List ℕ) (n p : ℕ) → offsets_verdict q s n p ≡ Fine → length_at s p ≤ cycle_most
+  small_offsets : (s : List ℕ) (n p : ℕ) → offsets_verdict q s n p ≡ faultless → length_at s p ≤ cycle_most
   small_offsets s n p fine = ltb-false _ _ (offsets_tests_lem q s n p fine).0.1.1.0
 
   module _ {s t : List ℕ} (alike : Alike assignment_most s t) where
@@ -241,7 +240,7 @@ module _ (q : Request) where
 
   pub assignment_short : (s : List ℕ) → assignment_fault q s ≡ none → length s ≤ assignment_most
   unfolding assignment_walk
-  assignment_short s e = length_near offsets_kind (early q s) (offsets_verdict q s) s cycle_most (small_offsets s) assignment_file circuits_most 0 e
+  assignment_short s e = length_near offsets_kind (early q s) (offsets_verdict q s) s cycle_most (small_offsets s) AssignmentFile circuits_most 0 e
 
 -- ---- requests
 
@@ -252,10 +251,10 @@ network_end = head_size + counts_size + link_size * buffers_most
 abbrev circuit_body_most : ℕ
 circuit_body_most = counts_size + hop_size * hops_most
 
-small_network : (s : List ℕ) → network_verdict s ≡ Fine → behind s 0 ≤ network_end
+small_network : (s : List ℕ) → network_verdict s ≡ faultless → behind s 0 ≤ network_end
 small_network s fine = omega (arith, ltb-false (counts_size + link_size * buffers_most) (length_at s 0) (network_tests_lem s fine).0.1.1.1.0)
 
-small_circuit : (s : List ℕ) (n p : ℕ) → circuit_verdict s n p ≡ Fine → length_at s p ≤ circuit_body_most
+small_circuit : (s : List ℕ) (n p : ℕ) → circuit_verdict s n p ≡ faultless → length_at s p ≤ circuit_body_most
 small_circuit s n p fine = ltb-false _ _ (circuit_tests_lem s n p fine).0.1.1.0
 
 module _ {s t : List ℕ} (alike : Alike request_most s t) where
@@ -381,22 +380,22 @@ module _ {s t : List ℕ} (alike : Alike request_most s t) where
   request_same = go (network_verdict s) refl ∙ ap (walked_by t) network_same
     where
       go : (v : Verdict) → network_verdict s ≡ v → walked_by s v ≡ walked_by t v
-      go Fine e =
+      go (Ok u) e =
           let few : buffers_of s ≤ buffers_most = ltb-false _ _ (network_tests_lem s e).0.1.1.1.1.1.1.1.1.0 in
           file_same circuit_kind (λ _. false) (circuit_verdict s) (circuit_verdict t) alike circuits_most network_end circuit_body_most (omega arith)
           (small_circuit s) (circuit_same few) (behind s 0) (small_network s e)
           ∙ ap (λ n. walk (suc circuits_most) (request_step t) [] (0 + head_size + n)) (word_same alike 0 (omega arith))
-      go (Faulty f) e = refl
+      go (Err f) e = refl
 
 pub request_short : (s : List ℕ) → request_fault s ≡ none → length s ≤ request_most
 unfolding request_walk
 request_short s e = go (network_verdict s) refl e
   where
-    go : (v : Verdict) → network_verdict s ≡ v → damage request_file (walked_by s v) ≡ none → length s ≤ request_most
-    go Fine fine e =
+    go : (v : Verdict) → network_verdict s ≡ v → damage RequestFile (walked_by s v) ≡ none → length s ≤ request_most
+    go (Ok u) fine e =
         omega
-        (arith, small_network s fine, length_near circuit_kind (λ _. false) (circuit_verdict s) s circuit_body_most (small_circuit s) request_file circuits_most (behind s 0) e)
-    go (Faulty f) fine e = absurd (none-ne-some _ (sym e))
+        (arith, small_network s fine, length_near circuit_kind (λ _. false) (circuit_verdict s) s circuit_body_most (small_circuit s) RequestFile circuits_most (behind s 0) e)
+    go (Err f) fine e = absurd (none-ne-some _ (sym e))
 
 -- ---- a file and its front
 
@@ -411,20 +410,20 @@ pub record StandsFor (fault : List ℕ → Option Answer) (t s : List ℕ) : Typ
 
 pub request_stands : (k : ℕ) → request_most < k → (s : List ℕ) → StandsFor request_fault (take k s) s
 request_stands k h s = record {
-  same = ap (damage request_file) (request_same (front_alike request_most k s h));
+  same = ap (damage RequestFile) (request_same (front_alike request_most k s h));
   whole = λ e. take_all k s (omega (arith, request_short s e));
 }
 
 pub assignment_stands : (k : ℕ) → assignment_most < k → (q : Request) → length q.circuits ≤ circuits_most → (s : List ℕ)
     → StandsFor (assignment_fault q) (take k s) s
 assignment_stands k h q few s = record {
-  same = ap (damage assignment_file) (assignment_same q (front_alike assignment_most k s h) few);
+  same = ap (damage AssignmentFile) (assignment_same q (front_alike assignment_most k s h) few);
   whole = λ e. take_all k s (omega (arith, assignment_short q s e));
 }
 
 pub table_stands : (k : ℕ) → table_most < k → (q : Request) (s : List ℕ) → StandsFor (table_fault q) (take k s) s
 table_stands k h q s = record {
-  same = ap (damage table_file) (table_same q.network (front_alike table_most k s h));
+  same = ap (damage TableFile) (table_same q.network (front_alike table_most k s h));
   whole = λ e. take_all k s (omega (arith, table_short q.network s e));
 }
 

@@ -12,12 +12,10 @@ use Rattle.model.specs.Network.{inport, after, hop_use, uses, send}
 use Rattle.model.specs.Holding.{Booking, holds?, meet?, offsets_clash?, clashes?, both?, what_in, slot_of, booking, pair_clash, clash_fault}
 use Rattle.model.specs.Lines.{meets?, serves?, series, line_for, lines_for, one_line, part_line, two_line, series_fault, lines_fault}
 use Rattle.model.specs.Search.{cells, barred, search, clash_of, whole, reply}
-use Rattle.model.specs.Reading.{request_step, request_walk, request, assignment_walk, assignment, table_step, table_walk, table}
+use Rattle.model.specs.Reading.{Step, next_at, ended, refused, request_step, request_walk, request, assignment_walk, assignment, table_step, table_walk, table}
 use Rattle.model.specs.Answers.{telling}
 use Rattle.model.specs.Jobs.{Call, read, allot, check, make, verify, read_request, allocate, check_assignment, make_tables, check_tables, assignment_bytes, table_bytes, assignment_size}
 use Rattle.model.specs.declared.Fault.TheVariants.{Kind, Count}
-use Rattle.model.specs.declared.Step.{Step}
-use Rattle.model.specs.declared.Step.TheVariants.{Next, End, Refused}
 use Rattle.model.proofs.Cases.{Case, run, case, end, one, two, from_local, from_buffer, blank, P, slots_p, late, line0, line1, table_p, Q, slots_q, narrow}
 
 -- ---- files with a few bytes changed
@@ -313,17 +311,17 @@ line s n = table_step (request P).network s n 0
 abbrev pub steps : List (Step × Step)
 steps =
     -- 32 circuits, and then only the end; 4,096 lines, and then only the end
-    (circuit P 31, Next 26) ∷
-    (circuit P 32, Refused Count 14) ∷
-    (circuit (take 14 P ++ end) 32, End) ∷
-    (line line0 4095, Next 12) ∷
-    (line line0 4096, Refused Count 0) ∷
-    (line end 4096, End) ∷
+    (circuit P 31, next_at 26) ∷
+    (circuit P 32, refused Count 14) ∷
+    (circuit (take 14 P ++ end) 32, ended) ∷
+    (line line0 4095, next_at 12) ∷
+    (line line0 4096, refused Count 0) ∷
+    (line end 4096, ended) ∷
     -- kind 2, then the 33rd circuit or 4,097th line 4, then the possible length 3
-    (circuit (set P 16 7) 32, Refused Kind 14) ∷
-    (circuit (set P 14 4) 32, Refused Count 14) ∷
-    (line (set line0 2 7) 4096, Refused Kind 0) ∷
-    (line (set line0 0 7) 4096, Refused Count 0) ∷
+    (circuit (set P 16 7) 32, refused Kind 14) ∷
+    (circuit (set P 14 4) 32, refused Count 14) ∷
+    (line (set line0 2 7) 4096, refused Kind 0) ∷
+    (line (set line0 0 7) 4096, refused Count 0) ∷
     []
 
 pub all_steps : map (λ s. s.0) steps ≡ map (λ s. s.1) steps

@@ -8,22 +8,22 @@ use native.Mathlib.Omega.{arith}
 use lib.ListN.{length}
 use lib.Dec.{eqb, eqb→eq}
 use borrow.Author.Tests.{le-ltb, lt-leb, eq-eqb, ne_eqb}
-use Rattle.model.specs.Sizes.{routers_most, buffers_most, circuits_most, cycle_most, hops_most, head_size, network_kind, circuit_kind, counts_size, link_size, hop_size, request_file, word_end}
+use Rattle.model.specs.Sizes.{routers_most, buffers_most, circuits_most, cycle_most, hops_most, head_size, network_kind, circuit_kind, counts_size, link_size, hop_size, word_end}
 use Rattle.model.specs.Tests.{neg, up_to}
 use Rattle.model.specs.Bytes.{byte_at, word, record_of}
 use Rattle.model.specs.Network.{Network, Circuit, Request, no_link, no_circuit, link_of, circuit_of, from_router, to_router, hops, hop}
-use Rattle.model.specs.Reading.{have, onward, go_on, Walked, walk, starts, routers_of, buffers_of, from_of, to_of, link_at, same_pair, bad_link, network_head, network_verdict, hops_at, hop_at, bad_hop, repeated, gap, broken_at, circuit_head, circuit_body, circuit_verdict, request_step, request_walk, circuit_at, request}
+use Rattle.model.specs.Reading.{faultless, have, onward, go_on, Walked, walk, starts, routers_of, buffers_of, from_of, to_of, link_at, same_pair, bad_link, network_head, network_verdict, hops_at, hop_at, bad_hop, repeated, gap, broken_at, circuit_head, circuit_body, circuit_verdict, request_step, request_walk, circuit_at, request}
 use Rattle.model.specs.Answers.{damage}
 use Rattle.model.specs.Jobs.{link_bytes, network_bytes, circuit_bytes, request_bytes, request_fault}
 use Rattle.model.specs.Sound.{SoundPath, SoundRequest}
-use Rattle.model.specs.declared.Verdict.TheVariants.{Fine}
 use Rattle.model.proofs.Tests.{and→, no_false, some-none, up_to_back}
 use Rattle.model.proofs.Written.{word_back, length_record, RecordAt, byte_in, word_in, length_in, kind_in, room_in, length_pieces, piece_in, file_of, Good, walk-behind}
+use Rattle.model.specs.declared.File.TheVariants.{Request as RequestFile}
 
 -- ---- the tests of a record's numbers
 
 network_numbers : (bytes len routers buffers : ℕ) → len ≡ counts_size + link_size * buffers → head_size + len ≤ bytes
-    → zero < routers → routers ≤ routers_most → buffers ≤ buffers_most → network_head bytes len network_kind routers buffers ≡ Fine
+    → zero < routers → routers ≤ routers_most → buffers ≤ buffers_most → network_head bytes len network_kind routers buffers ≡ faultless
 unfolding network_head neg
 network_numbers bytes len routers buffers size room some few known = rw (
   le-ltb bytes head_size (omega arith),
@@ -38,7 +38,7 @@ network_numbers bytes len routers buffers size room some few known = rw (
 )
 
 circuit_numbers_lem : {net : Network} {c : Circuit} → SoundPath net c → (n bytes len : ℕ) → n < circuits_most → len ≡ counts_size + hop_size * hops c → head_size + len ≤ bytes
-    → circuit_head n bytes len c.cycle c.demand (hops c) ≡ Fine
+    → circuit_head n bytes len c.cycle c.demand (hops c) ≡ faultless
 unfolding circuit_head neg
 circuit_numbers_lem {c} path n bytes len few size room = rw (
   lt-leb circuits_most n few,
@@ -105,7 +105,7 @@ module _ (q : Request) (sound : SoundRequest q) (s : List ℕ) (net : RecordAt s
     ne_eqb (from_router q.network b) (to_router q.network b) (sound.differ b h),
   )
 
-  network_fine : network_verdict s ≡ Fine
+  network_fine : network_verdict s ≡ faultless
   unfolding network_verdict
   network_fine = rw (
     length_in net network_short,
@@ -171,7 +171,7 @@ module _ (q : Request) (sound : SoundRequest q) (s : List ℕ) (net : RecordAt s
       unfolding broken_at
       unbroken j h = rw (new_hop j h, no_gap j h)
 
-      circuit_fine : (n : ℕ) → n < circuits_most → circuit_verdict s n p ≡ Fine
+      circuit_fine : (n : ℕ) → n < circuits_most → circuit_verdict s n p ≡ faultless
       unfolding circuit_verdict circuit_body neg record_of
       circuit_fine n few = rw (
         length_in r circuit_short,
@@ -207,10 +207,10 @@ module _ (q : Request) (sound : SoundRequest q) (s : List ℕ) (file : s ≡ rec
       ap (λ v. go_on (onward s 0 v) [] circuits_from) (network_fine q sound s net)
       ∙ ap circuits_from (omega (arith, length_in net (network_short q sound s net), length_record network_kind (network_bytes q.network)))
 
-  circuits_back : (damage request_file (circuits_from begin) ≡ none) × (map (circuit_at s) (starts (circuits_from begin)) ≡ q.circuits)
+  circuits_back : (damage RequestFile (circuits_from begin) ≡ none) × (map (circuit_at s) (starts (circuits_from begin)) ≡ q.circuits)
   unfolding request_step
   circuits_back =
-      walk-behind circuit_kind circuit_bytes s (circuit_verdict s) (circuit_at s) (λ n. false) no_circuit (omega arith) (λ e. omega arith) request_file circuits_most
+      walk-behind circuit_kind circuit_bytes s (circuit_verdict s) (circuit_at s) (λ n. false) no_circuit (omega arith) (λ e. omega arith) RequestFile circuits_most
       (record_of network_kind (network_bytes q.network)) q.circuits file sound.circuits
       (λ n h. circuit_good q sound s net (circuit_of q n) (sound.path n h) n (omega (arith, sound.circuits)))
       refl

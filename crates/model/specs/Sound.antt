@@ -4,7 +4,8 @@ use Rattle.std.specs.Prelude.{ℕ, zero, suc, ◌≤◌, ◌<◌, ◌≡◌, ◌
 use Rattle.model.specs.Sizes.{routers_most, buffers_most, circuits_most, cycle_most, hops_most, lines_most, local}
 use Rattle.model.specs.Network.{Network, Circuit, Request, circuit_of, from_router, to_router, hops, hop}
 use Rattle.model.specs.Holding.{offsets_of}
-use Rattle.model.specs.Lines.{Line, line_of}
+use Rattle.model.specs.Lines.{line_of}
+use Rattle.model.specs.declared.Line.{Line}
 use Rattle.model.specs.Search.{Suits}
 
 -- a circuit: its cycle, its demand, and a path of known buffers that is joined and has no buffer twice

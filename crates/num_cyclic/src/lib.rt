@@ -1,15 +1,15 @@
-// Numbers on a cycle: how far one is ahead of another. Assumes nothing.
+// Numbers on a cycle. Assumes nothing.
 #![tactic(auto)]
 
 ghost use Rattle.std.specs.Prelude.{◌≡◌, ◌<◌};
-ghost use Rattle.num_divisor.specs.Common.{Cycle};
 ghost use Rattle.num_cyclic.specs.Ahead.{ahead};
 
+use num_divisor::Cycle;
+
 // How far a is ahead of b, modulo g.
-pub fn difference(g: usize, a: usize, b: usize) -> usize
-    requires { Cycle g }
-    ensures is { result ≡ ahead g a b }
-    ensures low { result < g }
+pub fn difference(g: Cycle, a: usize, b: usize) -> usize
+    ensures is { result ≡ ahead g.slots a b }
+    ensures low { result < g.slots }
 {
-    (a % g + (g - b % g)) % g
+    (a % g.slots + (g.slots - b % g.slots)) % g.slots
 }

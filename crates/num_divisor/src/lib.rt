@@ -1,19 +1,27 @@
-// The common divisor of two cycles, by Euclid's rule.
+// Cycles, and the common divisor of two, by Euclid's rule. Assumes nothing.
 #![tactic(auto)]
 
-ghost use Rattle.num_divisor.specs.Common.{Cycle, Common};
+ghost use Rattle.num_divisor.specs.Common.{IsCycle, Common};
 
-pub fn common(a: usize, b: usize) -> usize
-    requires cycle { Cycle a }
-    requires cycle_2 { Cycle b }
-    ensures { Common a b result }
-{
-    let mut x = a;
-    let mut y = b;
-    while y != 0 {
-        let r = x % y;
-        x = y;
-        y = r;
+// So many slots, until what is booked comes round: a circuit's cycle, a line's period, or the common divisor of two.
+#[derive(Clone, Copy)]
+pub struct Cycle {
+    pub slots: usize,
+    ghost fits: { IsCycle slots },
+}
+
+impl Cycle {
+    // The common divisor.
+    pub fn common(self, other: Cycle) -> Cycle
+        ensures { Common self.slots other.slots result.slots }
+    {
+        let mut x = self.slots;
+        let mut y = other.slots;
+        while y != 0 {
+            let r = x % y;
+            x = y;
+            y = r;
+        }
+        Cycle { slots: x }
     }
-    x
 }

@@ -101,6 +101,15 @@ places-length (suc k) s m h =
     ∙ ap (λ (x : ℕ). m % 2 + x) (places-length k (suc s) (m / 2) (half_lt k h))
     ∙ sym (ones_step m)
 
+places_few : (k s m : ℕ) → length (places k s m) ≤ k
+unfolding places
+places_few zero s m = omega arith
+places_few (suc k) s m = go (eqb (m % 2) 1) (places_few k (suc s) (m / 2))
+  where
+    go : (b : Bool) → length (places k (suc s) (m / 2)) ≤ k → length (cond b (s ∷ places k (suc s) (m / 2)) (places k (suc s) (m / 2))) ≤ suc k
+    go true h = omega arith
+    go false h = omega arith
+
 -- ---- the first: the lowest set bit of m, at t, and then the places of m without it
 
 pub record FirstPlace (k s m t : ℕ) : Type 0 where
@@ -216,6 +225,10 @@ pub offsets-length : (m : ℕ) → m < 2 ^ cycle_most → length (offsets m) ≡
 unfolding offsets
 offsets-length m h = places-length cycle_most 0 m h
 
+pub offsets_few : (m : ℕ) → length (offsets m) ≤ cycle_most
+unfolding offsets
+offsets_few m = places_few cycle_most 0 m
+
 -- i is an offset of m where its bit is set
 pub offsets_in : (m i : ℕ) → (i ∈ offsets m) ↔ ((i < cycle_most) × T (bit m i))
 unfolding offsets
@@ -271,3 +284,30 @@ marked_new {m} {i} k = k.bits i ∙ ap (λ z. bit m i || z) (eq-eqb i i refl) �
 
 pub lowest_less : {rest t more : ℕ} → Lowest rest t → more ≡ rest - 2 ^ t → more < rest
 lowest_less {t = t} l e = omega (arith, l.least, pow_pos t)
+
+-- ---- a mask by its offsets
+
+places_below : (k s d m : ℕ) → m < 2 ^ k → ((i : ℕ) → i ∈ places k s m → i < s + d) → m < 2 ^ d
+unfolding places
+places_below zero s d m h below = rw (lt-one h) (pow_pos d)
+places_below (suc k) s d m h below = go d (m % 2) refl (λ d t. places_below k (suc s) d (m / 2) (half_lt k h) t) below
+  where
+    more : ℕ → Type 0
+    more t = (i : ℕ) → i ∈ places k (suc s) (m / 2) → i < t
+
+    go : (d b : ℕ) → m % 2 ≡ b → ((d : ℕ) → more (suc s + d) → m / 2 < 2 ^ d) → ((i : ℕ) → i ∈ cond (eqb (m % 2) 1) (s ∷ places k (suc s) (m / 2)) (places k (suc s) (m / 2)) → i < s + d) → m < 2 ^ d
+    go zero zero e half below =
+        let low : m / 2 < 2 ^ 0 = half 0 (λ i x. omega (arith, below i (in_pick (eqb (m % 2) 1) s x))) in
+        omega arith
+    go zero (suc b) e half below =
+        let one : m % 2 ≡ 1 = omega (arith, mod-lt m (zero-lt-suc 1)) in
+        let low : s < s + 0 = below s (rw one (Memᴰ.head refl)) in
+        absurd (omega arith)
+    go (suc d) b e half below =
+        let low : m / 2 < 2 ^ d = half d (λ i x. omega (arith, below i (in_pick (eqb (m % 2) 1) s x))) in
+        let twice : 2 ^ suc d ≡ 2 ^ d * 2 = pow-suc 2 d in
+        omega arith
+
+pub mask_below : (m d : ℕ) → m < 2 ^ cycle_most → ((i : ℕ) → i ∈ offsets m → i < d) → m < 2 ^ d
+unfolding offsets
+mask_below m d h below = places_below cycle_most 0 d m h (λ i x. omega (arith, below i x))

@@ -1,3 +1,2 @@
 -- Laws of offsets that are taken into masks. Assumes nothing.
 pub mod Taking
-pub mod Masking

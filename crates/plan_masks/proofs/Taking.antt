@@ -1,66 +1,77 @@
--- Offsets taken one by one, rising, into a mask. Assumes nothing.
-use Prim.Native.Nat.{ℕ, zero, suc, ◌+◌, ◌≤◌, ◌<◌}
-use mathlib.Core.Path.{◌≡◌, refl, sym, ap, ◌∙◌}
-use mathlib.Core.List.{List, [], ◌∷◌, ◌++◌}
-use native.Mathlib.Nat.{not-suc-le-zero, le_of_suc-le-suc, le_trans}
-use native.Mathlib.Numerals.{add-one}
+-- Rising offsets taken one by one into a mask, and the bytes of a record as its offsets. Assumes nothing.
+use Prim.Native.Nat.{ℕ, zero, suc, ◌+◌, ◌^◌, ◌≤◌, ◌<◌}
+use mathlib.Core.Path.{◌≡◌, refl, ap, ap₂, ◌∙◌, fun_ext}
+use mathlib.Core.Logic.{◌⊎◌, inl, inr}
+use mathlib.Core.List.{List, [], ◌∷◌}
+use mathlib.Core.List.Memᴰ
+use native.Mathlib.Nat.{not-suc-le-zero, le_of_suc-le-suc}
 use native.Mathlib.Omega.{arith}
-use lib.ListN.{length, get_or}
-use lib.Pow.{pow_mono, pow_pos}
-use Rattle.model.specs.Sizes.{cycle_most}
-use Rattle.model.specs.Tests.{up_to}
+use native.Mathlib.Decide.{ℕ_discrete}
+use lib.ListN.{length, get_or, set, take, drop}
+use Rattle.std.proofs.Math.Seq.{drop-cons}
+use Rattle.std.proofs.lemmas.List.{get_or-set_same, get_or-set_other}
+use Rattle.model.specs.Sizes.{cycle_most, head_size}
+use Rattle.model.specs.Tests.{◌∈◌, up_to}
+use Rattle.model.specs.Bytes.{length_at}
 use Rattle.model.specs.Search.{Rises}
-use Rattle.model.specs.Reading.{offset_at}
-use Rattle.model.proofs.Tests.{length-up_to, get_or-up_to}
+use Rattle.model.specs.Reading.{offsets_at}
 use Rattle.model.proofs.Sound.{rises_at}
-use Rattle.num_mask.specs.Bits.{offsets, Above, More}
-use Rattle.num_mask.proofs.Laws.{offsets-zero}
-use Rattle.plan_masks.specs.Masks.{Rising, MaskOf}
+use Rattle.num_mask.specs.Bits.{offsets, Above}
+use Rattle.num_mask.proofs.Laws.{mask_below}
+use Rattle.file_records.specs.Fields.{Word}
+use Rattle.plan_masks.specs.Masks.{Risings, MasksOf}
 
--- one more at the end
-pub up_to_more : {A : Type 0} (n : ℕ) (f : ℕ → A) → up_to (suc n) f ≡ up_to n f ++ (f n ∷ [])
+-- what stands before number i is below it
+rises_to : (a e : ℕ) (os : List ℕ) → Rises a e os → (i o : ℕ) → i < length os → o ∈ take i os → o < get_or os i 0
+rises_to a e [] r i o h m = absurd (not-suc-le-zero h)
+rises_to a e (x ∷ os) r zero o h m = absurd (Memᴰ.not-nil m)
+rises_to a e (x ∷ os) r (suc i) o h m = go (Memᴰ.cases_cons m) (rises_to (suc x) e os r.2 i o (le_of_suc-le-suc h))
+  where
+    go : (o ≡ x) ⊎ (o ∈ take i os) → (o ∈ take i os → o < get_or os i 0) → o < get_or os i 0
+    go (inl s) rest = omega (arith, s, (rises_at (suc x) e os r.2 i (le_of_suc-le-suc h)).0)
+    go (inr m) rest = rest m
+
+module _ (os : List ℕ) (i : ℕ) (r : Rises 0 cycle_most os) (h : i < length os) where
+  pub offset_small : get_or os i 0 < cycle_most
+  offset_small = (rises_at 0 cycle_most os r i h).1
+
+  pub above_here : (m : ℕ) → m < 2 ^ cycle_most → offsets m ≡ take i os → Above m (get_or os i 0)
+  above_here m fits e = record {
+    inside = offset_small;
+    low = mask_below m (get_or os i 0) fits (λ o x. rises_to 0 cycle_most os r i o h (rw e at x));
+  }
+
+-- n bytes from a on
+bytes_are : (s : List ℕ) (n a : ℕ) → a + n ≤ length s → take n (drop a s) ≡ up_to n (λ i. get_or s (a + i) 0)
 unfolding up_to
-up_to_more zero f = refl
-up_to_more (suc n) f = ap (λ l. f zero ∷ l) (up_to_more n (λ i. f (suc i)))
+bytes_are s zero a h = refl
+bytes_are s (suc n) a h =
+    ap (take (suc n)) (drop-cons s a 0 (omega arith))
+    ∙ ap₂
+    (λ (x : ℕ) (xs : List ℕ). x ∷ xs)
+    (ap (λ (k : ℕ). get_or s k 0) (omega arith))
+    (bytes_are s n (suc a) (omega arith) ∙ ap (λ (f : ℕ → ℕ). up_to n f) (fun_ext (λ i. ap (λ (k : ℕ). get_or s k 0) (omega arith))))
 
--- rising numbers are in order
-rises_order : (a e : ℕ) (os : List ℕ) → Rises a e os → (i j : ℕ) → i < j → j < length os → get_or os i 0 < get_or os j 0
-rises_order a e [] r i j h k = absurd (not-suc-le-zero k)
-rises_order a e (o ∷ os) r i zero h k = absurd (not-suc-le-zero h)
-rises_order a e (o ∷ os) r zero (suc j) h k = (rises_at (suc o) e os r.2 j (le_of_suc-le-suc k)).0
-rises_order a e (o ∷ os) r (suc i) (suc j) h k = rises_order (suc o) e os r.2 i j (le_of_suc-le-suc h) (le_of_suc-le-suc k)
+-- ---- the records one after the other
 
-module _ (s : List ℕ) (p count : ℕ) (rising : Rising s p count) where
-  pub offset_order : (k i : ℕ) → k < i → i < count → offset_at s p k < offset_at s p i
-  offset_order k i h l =
-      let f = offset_at s p in
-      let o = rises_order 0 cycle_most (up_to count f) rising.rises k i h (rw (length-up_to count f) l) in
-      omega (arith, o, get_or-up_to count f k 0 (omega arith), get_or-up_to count f i 0 l)
+module _ (s starts : List ℕ) (c n count : ℕ) (g : Risings s starts) (l : c < length starts) (w : Word s (get_or starts c 0) count) (e : n ≡ count) where
+  pub record_is : take n (drop (get_or starts c 0 + head_size) s) ≡ offsets_at s (get_or starts c 0)
+  record_is =
+      let size : n ≡ length_at s (get_or starts c 0) = e ∙ w.is in
+      ap (λ (k : ℕ). take k (drop (get_or starts c 0 + head_size) s)) size
+      ∙ bytes_are s (length_at s (get_or starts c 0)) (get_or starts c 0 + head_size) (g.each c l).inside
 
-  pub offset_small : (i : ℕ) → i < count → offset_at s p i < cycle_most
-  offset_small i l =
-      let f = offset_at s p in
-      omega (arith, rises_at 0 cycle_most (up_to count f) rising.rises i (rw (length-up_to count f) l), get_or-up_to count f i 0 l)
+  pub rising_here : Rises 0 cycle_most (take n (drop (get_or starts c 0 + head_size) s))
+  rising_here = rw record_is ((g.each c l).rises)
 
-  -- the first i of them are in the mask
-  pub start_here : MaskOf s p 0 0
-  unfolding up_to
-  start_here = record { parts = offsets-zero; low = λ d h. pow_pos d }
+  pub masks_more : (masks : List ℕ) (m : ℕ) → c < length masks → MasksOf s starts masks c → offsets m ≡ take n (drop (get_or starts c 0 + head_size) s)
+      → m < 2 ^ cycle_most → MasksOf s starts (set masks c m) (c + 1)
+  masks_more masks m h t x fits = record { each = λ k b. go k b (ℕ_discrete k c); fits = λ k b. low k b (ℕ_discrete k c) }
+    where
+      go : (k : ℕ) → k < c + 1 → Dec (k ≡ c) → offsets (get_or (set masks c m) k 0) ≡ offsets_at s (get_or starts k 0)
+      go k b (yes z) = rw (z, get_or-set_same masks c m 0 h) (x ∙ record_is)
+      go k b (no z) = rw (get_or-set_other masks c k m 0 z) (t.each k (omega arith))
 
-  module _ (i m a : ℕ) (going : MaskOf s p i m) (l : i < count) (e : a ≡ offset_at s p i) where
-    pub above_here : Above m a
-    above_here = record {
-      inside = omega (arith, offset_small i l);
-      low = rw e (going.low (offset_at s p i) (λ k h. offset_order k i h l));
-    }
-
-    pub on_here : (r : ℕ) → More m a r → MaskOf s p (i + 1) r
-    on_here r x = rw add-one (record {
-      parts = x.parts ∙ ap (λ o. offsets m ++ (o ∷ [])) e ∙ ap (λ os. os ++ (offset_at s p i ∷ [])) going.parts ∙ sym (up_to_more i (offset_at s p));
-      low = λ d h.
-          let b : a + 1 ≤ d = omega (arith, h i (omega arith)) in
-          le_trans x.low (pow_mono {i = a + 1} {j = d} b);
-    })
-
-  pub end_here : (i m : ℕ) → i ≤ count → count ≤ i → MaskOf s p i m → MaskOf s p count m
-  end_here i m h k going = let e : i ≡ count = omega arith in rw e at going
+      low : (k : ℕ) → k < c + 1 → Dec (k ≡ c) → get_or (set masks c m) k 0 < 2 ^ cycle_most
+      low k b (yes z) = rw (z, get_or-set_same masks c m 0 h) fits
+      low k b (no z) = rw (get_or-set_other masks c k m 0 z) (t.fits k (omega arith))

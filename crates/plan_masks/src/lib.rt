@@ -2,33 +2,35 @@
 #![tactic(auto)]
 
 ghost use Rattle.std.specs.Prelude.{◌≡◌, length};
-ghost use Rattle.model.specs.Sizes.{circuits_most};
-ghost use Rattle.plan_masks.specs.Masks.{Rising, MaskOf, Risings, MasksOf};
+ghost use Rattle.model.specs.Sizes.{cycle_most};
+ghost use Rattle.model.specs.Search.{Rises};
+ghost use Rattle.num_mask.specs.Bits.{offsets};
+ghost use Rattle.plan_masks.specs.Masks.{Risings, MasksOf};
 
+use file_records::Places;
 use model::HEAD_SIZE;
+use plan::Masks;
 
-// The mask of the count offsets in the record that starts at p.
-fn mask_at(s: &[u8], p: usize, count: usize) -> u32
-    requires { Rising s.now p count }
-    ensures { MaskOf s.now p count result }
+// The mask of rising offsets.
+fn mask_of(rising: &[u8]) -> u32
+    requires { Rises 0 cycle_most rising.now }
+    ensures { offsets result ≡ rising.now }
 {
-    let mut mask: u32 = 0;
-    for i in 0..count {
-        let a = file_records::byte(s, p + HEAD_SIZE + i);
-        mask = num_mask::with(mask, a as u32);
+    let mut mask = 0u32;
+    for offset in rising {
+        mask = num_mask::with(mask, u32::from(*offset));
     }
     mask
 }
 
-// Puts the offsets of n circuits into masks: the record of circuit c starts at byte at[c].
-pub fn fill(s: &[u8], n: usize, at: &[usize], masks: &mut [u32])
-    requires risings { Risings s.now n at.now }
-    requires masks_len { length masks.old ≡ circuits_most }
-    ensures { MasksOf s.now n at.now masks.new }
+// Puts the offsets of each circuit into its mask: its record starts at the byte that stands in `starts`.
+pub fn fill(assignment: &[u8], starts: &Places, masks: &mut Masks)
+    requires { Risings assignment.now starts.now.items }
+    ensures { MasksOf assignment.now starts.now.items masks.new (length starts.now.items) }
 {
-    for c in 0..n {
-        let p = at[c];
-        let count = file_records::word(s, p);
-        masks[c] = mask_at(s, p, count);
+    for (c, start) in starts.iter().enumerate() {
+        let first = *start + HEAD_SIZE;
+        let count = file_records::word(assignment, *start);
+        masks[c] = mask_of(&assignment[first..first + count]);
     }
 }

@@ -1,14 +1,11 @@
 -- What a test found, as the model has it. Assumes nothing: these are definitions.
-use Rattle.std.specs.Prelude.{Bool, true, false}
+use Rattle.std.specs.Prelude.{Result, Ok, Err}
 use Rattle.std.proofs.Math.Option.{Option, none, some}
 use Rattle.model.specs.declared.Answer.{Answer}
-use Rattle.plan_refusal.specs.declared.Refusal.{Refusal}
-use Rattle.plan_refusal.specs.declared.Refusal.TheVariants.{Nothing, Told}
 
-abbrev pub found : Refusal → Option Answer
-found Nothing = none
-found (Told a) = some a
+abbrev pub Tested : Type 0
+Tested = Result (Unit {0}) Answer
 
-abbrev pub nothing : Refusal → Bool
-nothing Nothing = true
-nothing (Told a) = false
+abbrev pub found : Tested → Option Answer
+found (Ok u) = none
+found (Err a) = some a

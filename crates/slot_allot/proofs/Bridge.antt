@@ -6,22 +6,24 @@ use mathlib.Core.List.{List, [], ◌∷◌, ◌++◌, map}
 use Prim.Native.Nat.{ℕ, ◌<◌}
 use native.Mathlib.Omega.{arith}
 use lib.ListN.{length, length-map}
-use Rattle.model.specs.Network.{Request, Circuit, no_circuit}
+use Rattle.model.specs.Network.{Request, Circuit as Asked, no_circuit}
 use Rattle.model.specs.Search.{Walk, search, whole}
 use Rattle.model.proofs.Tests.{up_to_back}
 use Rattle.std.proofs.lemmas.List.{get_or-map}
 use Rattle.model.proofs.SameSearch.{whole_same}
+use Rattle.arrayvec.specs.ArrayVec.{ArrayVec}
+use Rattle.plan.specs.declared.Circuit.{Circuit}
 use Rattle.plan.specs.Plan.{circuits_in, Stands}
 use Rattle.plan.proofs.Laws.{cycle_is, demand_is}
 use Rattle.slot_grid.specs.Table.{clash_in, Filled}
 use Rattle.slot_search.specs.Code.{pathless, circuits}
 
 -- a circuit without its path
-abbrev bare : Circuit → Circuit
+abbrev bare : Asked → Asked
 bare x = record { cycle = x.cycle; demand = x.demand; path = [] }
 
 -- the search does not look at a path
-search_bare : (clash : ℕ → ℕ → ℕ → ℕ → Bool) (xs : List Circuit) (earlier : List (List ℕ)) → search clash (map bare xs) earlier ≡ search clash xs earlier
+search_bare : (clash : ℕ → ℕ → ℕ → ℕ → Bool) (xs : List Asked) (earlier : List (List ℕ)) → search clash (map bare xs) earlier ≡ search clash xs earlier
 unfolding search
 search_bare clash [] earlier = refl
 search_bare clash (x ∷ xs) earlier =
@@ -29,7 +31,7 @@ search_bare clash (x ∷ xs) earlier =
     fun_ext (λ os. search_bare clash xs (earlier ++ (os ∷ []))) in
     rw next refl
 
-module _ {q : Request} {p : List ℕ} (s : Stands q p) where
+module _ {q : Request} {p : ArrayVec Circuit} (s : Stands q p) where
   circuits_bare : circuits p ≡ map bare q.circuits
   unfolding circuits
   circuits_bare =
@@ -40,8 +42,8 @@ module _ {q : Request} {p : List ℕ} (s : Stands q p) where
       let k : c < length q.circuits = omega arith in
       rw (cycle_is s listed, demand_is s listed) (sym (get_or-map bare q.circuits c no_circuit no_circuit k))))
 
-  pub bridge : {grid : List ℕ} → Filled q (circuits_in p) grid → search (clash_in grid) (circuits p) [] ≡ whole q
+  pub bridge : {grid : List (List (List ℕ))} → Filled q (circuits_in p) grid → search (clash_in grid) (circuits p) [] ≡ whole q
   bridge {grid} right =
-      ap (λ (xs : List Circuit). search (clash_in grid) xs []) circuits_bare
+      ap (λ (xs : List Asked). search (clash_in grid) xs []) circuits_bare
       ∙ search_bare (clash_in grid) q.circuits []
       ∙ whole_same q (clash_in grid) (rw s.many at right).at

@@ -1,47 +1,52 @@
 -- The bytes of an assignment, circuit by circuit. Assumes nothing.
-use Prim.Native.Nat.{ℕ, ◌+◌, ◌*◌, ◌≤◌, ◌<◌}
-use mathlib.Core.Path.{◌≡◌, ap}
-use mathlib.Core.List.{List, map}
-use native.Mathlib.Numerals.{add-one}
-use native.Mathlib.Omega.{arith}
-use lib.ListN.{length, drop, drop_of_length-le}
-use lib.Seq.{drop-cons}
+use Rattle.std.proofs.Common.{ℕ, ◌+◌, ◌*◌, ◌≤◌, ◌<◌, ◌≡◌, List, [], ◌∷◌, length, get_or, map, refl, sym, ap, ◌∙◌, arith}
+use Rattle.std.specs.List.{sum_by}
+use Rattle.std.proofs.Math.ListN.{length-map}
+use Rattle.std.proofs.lemmas.List.{ext_get_or, get_or-map}
+use Rattle.std.proofs.lemmas.List.Recursion.{is_sum_by}
+use Rattle.arrayvec.specs.ArrayVec.{ArrayVec}
 use Rattle.model.specs.Sizes.{cycle_most, head_size}
 use Rattle.model.specs.Tests.{sum}
-use Rattle.model.specs.Network.{Request, Circuit, no_circuit}
+use Rattle.model.specs.Network.{Request, Circuit as Asked, no_circuit as none_asked}
 use Rattle.model.specs.Jobs.{assignment_size}
-use Rattle.plan.specs.Plan.{circuits_in, demand_in, Stands, Usable}
+use Rattle.plan.specs.declared.Circuit.{Circuit}
+use Rattle.plan.specs.Plan.{CircuitPlan, circuits_in, shown, no_circuit, Stands}
 use Rattle.plan.proofs.Laws.{demand_is}
 use Rattle.slot_allot.specs.Slots.{SizeFor}
 
--- those of the circuits xs
-abbrev sizes : List Circuit → ℕ
-sizes xs = sum (map (λ x. head_size + x.demand) xs)
+-- those of one circuit
+abbrev pub size : Circuit → ℕ
+size c = head_size + c.demand
 
--- total has those of the end record and of the first c circuits, and it is small
-pub record Counted (p : List ℕ) (total c : ℕ) : Type 0 where
-  pub small : total ≤ head_size + c * (head_size + cycle_most)
-  pub is : (q : Request) → Stands q p → total + sizes (drop c q.circuits) ≡ assignment_size q
+sizes : (xs : List Circuit) → sum (map size xs) ≡ sum_by size xs
+unfolding sum
+sizes xs = is_sum_by (λ xs. sum (map size xs)) size refl (λ x xs. refl) xs
 
-pub counted_none : {p : List ℕ} → Counted p head_size 0
+small : (xs : List Circuit) → sum (map size xs) ≤ length xs * (head_size + cycle_most)
+unfolding sum
+small [] = omega arith
+small (x ∷ xs) = omega (arith, small xs, x.demand_fits, x.cycle.fits.high)
+
+pub sizes_small : (xs : List Circuit) → sum_by size xs ≤ length xs * (head_size + cycle_most)
+sizes_small xs = rw (← sizes xs) (small xs)
+
+map_shown : (xs : List Circuit) → map size xs ≡ map (λ x. head_size + x.demand) (map shown xs)
+map_shown [] = refl
+map_shown (x ∷ xs) = ap (λ l. size x ∷ l) (map_shown xs)
+
+module _ {q : Request} {p : ArrayVec Circuit} (s : Stands q p) where
+  asked : map size p.items ≡ map (λ x. head_size + x.demand) q.circuits
+  asked =
+      let len : length (map size p.items) ≡ length (map (λ (x : Asked). head_size + x.demand) q.circuits) = simp length-map s.many in
+      ext_get_or 0 (map size p.items) (map (λ x. head_size + x.demand) q.circuits) len (λ c h.
+      let listed : c < circuits_in p = omega (arith, length-map p.items size) in
+      let shown_here : c < length (map shown p.items) = omega (arith, length-map p.items shown) in
+      let here : c < length q.circuits = omega (arith, s.many) in
+      ap (λ l. get_or l c 0) (map_shown p.items)
+      ∙ get_or-map (λ (x : CircuitPlan). head_size + x.demand) (map shown p.items) c no_circuit 0 shown_here
+      ∙ ap (λ n. head_size + n) (demand_is s listed)
+      ∙ sym (get_or-map (λ (x : Asked). head_size + x.demand) q.circuits c none_asked 0 here))
+
+pub sized : (p : ArrayVec Circuit) {total : ℕ} → total ≡ sum_by size p.items → SizeFor p (total + head_size)
 unfolding assignment_size
-counted_none = record { small = omega arith; is = λ q s. omega arith }
-
-module _ {p : List ℕ} {total c : ℕ} (done : Counted p total c) where
-  pub counted_more : {n : ℕ} → Usable p → c < circuits_in p → n ≡ demand_in p c → Counted p (total + (head_size + n)) (c + 1)
-  unfolding sum
-  counted_more {n} usable h e =
-      let fit = usable.fit c h in
-      record {
-        small = omega (arith, done.small);
-        is = λ q s.
-            let listed : c < length q.circuits = omega (arith, s.many) in
-            let first = ap sizes (drop-cons q.circuits c no_circuit listed) in
-            rw add-one (omega (arith, first, done.is q s, demand_is s h));
-      }
-
-  pub counted_all : circuits_in p ≤ c → SizeFor p total
-  unfolding sum
-  counted_all h q s =
-      let past : length q.circuits ≤ c = omega (arith, s.many) in
-      omega (arith, ap sizes (drop_of_length-le q.circuits past), done.is q s)
+sized p e q s = rw (e, ← sizes p.items) (ap (λ l. sum l + head_size) (asked s))

@@ -1,46 +1,13 @@
--- Laws of words of bits, as the code's steps use them: a word without its lowest bit, and the ones at its low end. Assumes nothing.
-use mathlib.Core.Path.{◌≡◌, refl, sym, ap, ap₂, ◌∙◌}
+-- The ones at the low end of a word of bits. Assumes nothing.
+use mathlib.Core.Path.{◌≡◌, refl, sym, ap, ◌∙◌}
 use mathlib.Core.Bool.{true}
-use Prim.Native.Nat.{ℕ, zero, suc, ◌+◌, ◌-◌, ◌*◌, ◌/◌, ◌%◌, ◌^◌, ◌≤◌, ◌<◌, min}
+use Prim.Native.Nat.{ℕ, zero, suc, ◌+◌, ◌-◌, ◌*◌, ◌/◌, ◌%◌, ◌^◌, ◌≤◌, ◌<◌}
 use native.Mathlib.Nat.{pow-suc, not-suc-le-zero, lt_of_le_of_lt, div-le_self}
 use native.Mathlib.Omega.{arith}
-use lib.Arith.{lt-one}
 use lib.Pow.{shr-shr}
-use lib.Bits.{bit_and, and_step, and_self}
 use lib.Count.{count_trailing_zeros, under}
 use borrow.Author.Tests.{eq-eqb}
 use Rattle.num_mask.specs.Bits.{bit}
-
--- ---- without the lowest bit
-
-and_odd : (m : ℕ) → m % 2 ≡ 1 → bit_and m (m - 1) ≡ m - 1
-and_odd m e =
-    let same : (m - 1) / 2 ≡ m / 2 = omega arith in
-    let low : min (m % 2) ((m - 1) % 2) ≡ 0 = omega arith in
-    and_step m (m - 1) ∙ ap₂ (λ (x y : ℕ). bit_and (m / 2) x * 2 + y) same low
-    ∙ ap (λ (x : ℕ). x * 2 + 0) (and_self (m / 2)) ∙ omega arith
-
-and_even : (m : ℕ) → m % 2 ≡ 0 → 0 < m → bit_and m (m - 1) ≡ bit_and (m / 2) (m / 2 - 1) * 2
-and_even m e p =
-    let half : (m - 1) / 2 ≡ m / 2 - 1 = omega arith in
-    let low : min (m % 2) ((m - 1) % 2) ≡ 0 = omega arith in
-    and_step m (m - 1) ∙ ap₂ (λ (x y : ℕ). bit_and (m / 2) x * 2 + y) half low ∙ omega arith
-
-pub and_lower : (k m : ℕ) → m < 2 ^ k → 0 < m → bit_and m (m - 1) ≡ m - 2 ^ count_trailing_zeros k m
-unfolding count_trailing_zeros
-and_lower zero m h p = absurd (omega (arith, lt-one h))
-and_lower (suc k) m h p = go (m % 2) refl (λ q. and_lower k (m / 2) (omega (arith, pow-suc 2 k)) q)
-  where
-    t : ℕ
-    t = count_trailing_zeros k (m / 2)
-
-    go : (d : ℕ) → m % 2 ≡ d → (0 < m / 2 → bit_and (m / 2) (m / 2 - 1) ≡ m / 2 - 2 ^ t) → bit_and m (m - 1) ≡ m - 2 ^ under (m % 2) t
-    go zero e half =
-        let rest = half (omega arith) in
-        let doubled : 2 ^ suc t ≡ 2 ^ t * 2 = pow-suc 2 t in
-        and_even m e p ∙ ap (λ (x : ℕ). x * 2) rest ∙ omega arith ∙ ap (λ (d : ℕ). m - 2 ^ under d t) (sym e)
-    go (suc zero) e half = and_odd m e ∙ ap (λ (d : ℕ). m - 2 ^ under d t) (sym e)
-    go (suc (suc d)) e half = absurd (omega arith)
 
 -- ---- the ones at the low end are as many as the zeros of the word with all bits turned
 

@@ -1,5 +1,5 @@
 -- The cells of a circuit that can only be skipped, and what is joined from a grid. Assumes nothing: these are definitions.
-use Rattle.std.specs.Prelude.{◌≡◌, ℕ, ◌+◌, ◌<◌, ◌≤◌, true, List, [], ◌∷◌, get_or}
+use Rattle.std.specs.Prelude.{◌≡◌, ℕ, ◌+◌, ◌<◌, ◌≤◌, true, List, fold, get_or}
 use Rattle.std.specs.Int.Bits.{bit_or}
 use Rattle.num_mask.specs.Bits.{bit}
 
@@ -11,7 +11,6 @@ pub record SkippedTo (shut a cycle demand have r : ℕ) : Type 0 where
   pub none : (i : ℕ) → a ≤ i → i < r → have < demand → bit shut i ≡ true
   pub full : demand ≤ have → r ≡ cycle
 
--- the entries of a grid at base + a for each a of a list, joined bit by bit with x
-unfoldable pub gathered : (grid : List ℕ) (base x : ℕ) → List ℕ → ℕ
-gathered grid base x [] = x
-gathered grid base x (a ∷ more) = gathered grid base (bit_or x (get_or grid (base + a) 0)) more
+-- the entries of a row at each of a list, joined bit by bit with x
+abbrev pub gathered : (row : List ℕ) (x : ℕ) → List ℕ → ℕ
+gathered row x os = fold (λ y a. bit_or y (get_or row a 0)) x os

@@ -2,29 +2,20 @@
 // Assumes nothing.
 #![tactic(auto)]
 
-ghost use Rattle.std.specs.Prelude.{◌≡◌, ℕ, ◌+◌, ◌≤◌, ◌<◌, map, length, take};
+ghost use Rattle.std.specs.Prelude.{◌≡◌, ℕ, ◌≤◌, ◌<◌, map, length, take};
 ghost use Rattle.model.specs.Sizes.{circuits_most, cycle_most};
 ghost use Rattle.model.specs.Search.{barred};
 ghost use Rattle.num_mask.specs.Bits.{bit, offsets};
-ghost use Rattle.slot_grid.specs.Table.{grid_size, clash_in};
+ghost use Rattle.slot_grid.specs.Table.{clash_in};
 ghost use Rattle.slot_cells.specs.Cells.{SkippedTo, gathered};
 
-use model::{CIRCUITS_MOST, CYCLE_MOST};
-use slot_grid::Grid;
+use slot_grid::{Grid, Row};
 
-// The entries of the grid at base + a for the set bits a of m, joined bit by bit with from.
-fn gather(grid: &Grid, base: usize, m: u32, from: u32) -> u32
-    requires { base + cycle_most ≤ grid_size }
-    ensures { result ≡ gathered grid.now base from (offsets m) }
+// The entries of a row at the offsets of m, joined bit by bit with from.
+fn gather(row: &Row, m: u32, from: u32) -> u32
+    ensures { result ≡ gathered row.now from (offsets m) }
 {
-    let mut acc = from;
-    let mut rest = m;
-    while rest != 0 {
-        let a = u32::trailing_zeros(rest);
-        acc = acc | grid[base + a as usize];
-        rest = rest & (rest - 1);
-    }
-    acc
+    num_mask::offsets(m).fold(from, |acc, a| acc | row[a as usize])
 }
 
 // The offsets of circuit c that clash with one taken by an earlier circuit.
@@ -32,13 +23,10 @@ pub fn blocked(grid: &Grid, taken: &[u32], c: usize) -> u32
     requires { (c < circuits_most) × (c ≤ length taken.now) }
     ensures { (i : ℕ) → bit result i ≡ barred (clash_in grid.now) c i 0 (map offsets (take c taken.now)) }
 {
-    let mut acc: u32 = 0;
-    let mut e = 0;
-    while e < c {
-        acc = gather(grid, (c * CIRCUITS_MOST + e) * CYCLE_MOST, taken[e], acc);
-        e += 1;
-    }
-    acc
+    grid[c]
+        .iter()
+        .zip(&taken[..c])
+        .fold(0, |acc, (row, mask)| gather(row, *mask, acc))
 }
 
 // The next cell of a circuit, from a on, that could be taken or may not be skipped, or else its end.

@@ -1,25 +1,24 @@
--- The grid of clashes: what loops over offsets, entries and pairs have filled in. Assumes nothing.
-use Prim.Native.Nat.{ℕ, ◌+◌, ◌≤◌, ◌<◌}
-use mathlib.Core.Path.{◌≡◌, refl, sym, ap, ◌∙◌}
-use mathlib.Core.Bool.{true, false, ◌||◌, or-false}
-use mathlib.Core.List.{List, []}
-use native.Mathlib.Omega.{arith}
+-- The grid of clashes: what loops over offsets, entries and rows have filled in. Assumes nothing.
+use Rattle.std.proofs.Common.{ℕ, ◌+◌, ◌≤◌, ◌<◌, ◌≡◌, ◌||◌, true, false, List, [], length, get_or, map, take, refl, ap, sym, ◌∙◌, arith}
+use Rattle.std.proofs.Math.ListN.{set, length-map, length-take}
+use Rattle.std.proofs.lemmas.List.{get_or-set_same, get_or-set_other, get_or-take, take-map}
+use Rattle.std.specs.Prelude.{eqb}
 use native.Mathlib.Decide.{dec_lt}
 use borrow.Author.Tests.{ne_eqb}
-use lib.ListN.{length, get_or, set, length-set}
-use lib.Seq.{get_or-set_same, get_or-set_other}
-use lib.Dec.{eqb}
+use mathlib.Core.Bool.{or-false}
+use Rattle.arrayvec.specs.ArrayVec.{ArrayVec}
 use Rattle.model.specs.Network.{Request}
 use Rattle.model.specs.Search.{clash_of}
 use Rattle.num_divisor.specs.Common.{Common}
 use Rattle.num_mask.specs.Bits.{bit, Marked}
 use Rattle.num_mask.proofs.Laws.{bit-none, marked_new, offsets-zero}
 use Rattle.num_cyclic.specs.Ahead.{ahead}
-use Rattle.plan.specs.Plan.{circuits_in, cycle_in, circuit_in, booking_in, Stands, Booked, Usable}
+use Rattle.plan.specs.declared.Circuit.{Circuit}
+use Rattle.plan.specs.Plan.{CircuitPlan, no_circuit, shown, circuits_in, circuit_in, claim, Stands, Booked}
 use Rattle.plan.proofs.Laws.{cycle_is, booking_is}
 use Rattle.clash_pair.specs.Differences.{Bad}
 use Rattle.clash_pair.proofs.Hitting.{bad_clash}
-use Rattle.slot_grid.specs.Table.{Barred, PairFilled, pair_at, clash_in, FilledFor, plan_clash, CircuitFilled}
+use Rattle.slot_grid.specs.Table.{RowBarred, RowFilled, RowsFilled, clash_in, pair_clash, FilledFor}
 
 -- ---- one entry: the offsets below k are settled, and no other is in
 
@@ -32,15 +31,15 @@ module _ {bad g b : ℕ} where
   barred-none = record { settled = λ a h. absurd (omega arith); clear = λ a h. bit-none a }
 
   module _ {k acc : ℕ} (done : BarredTo bad g b k acc) where
-    pub barred_skip : {x : ℕ} → x ≡ ahead g k b → bit bad x ≡ false → BarredTo bad g b (k + 1) acc
-    barred_skip e f = record { settled = λ a h. pick a h (dec_lt a k); clear = λ a h. done.clear a (omega arith) }
+    pub barred_skip : bit bad (ahead g k b) ≡ false → BarredTo bad g b (k + 1) acc
+    barred_skip f = record { settled = λ a h. pick a h (dec_lt a k); clear = λ a h. done.clear a (omega arith) }
       where
         pick : (a : ℕ) → a < k + 1 → Dec (a < k) → bit acc a ≡ bit bad (ahead g a b)
         pick a h (yes l) = done.settled a l
-        pick a h (no l) = let s : a ≡ k = omega arith in rw s (done.clear k (omega arith) ∙ sym (rw e at f))
+        pick a h (no l) = let s : a ≡ k = omega arith in rw s (done.clear k (omega arith) ∙ sym f)
 
-    pub barred_mark : {x r : ℕ} → x ≡ ahead g k b → bit bad x ≡ true → Marked acc k r → BarredTo bad g b (k + 1) r
-    barred_mark {r = r} e f m = record {
+    pub barred_mark : {r : ℕ} → bit bad (ahead g k b) ≡ true → Marked acc k r → BarredTo bad g b (k + 1) r
+    barred_mark {r} f m = record {
       settled = λ a h. pick a h (dec_lt a k);
       clear = λ a h. m.bits a ∙ ap (λ z. z || eqb a k) (done.clear a (omega arith)) ∙ ne_eqb a k (λ e. omega arith);
     }
@@ -48,103 +47,45 @@ module _ {bad g b : ℕ} where
         pick : (a : ℕ) → a < k + 1 → Dec (a < k) → bit r a ≡ bit bad (ahead g a b)
         pick a h (yes l) =
             m.bits a ∙ ap (λ z. bit acc a || z) (ne_eqb a k (λ e. omega arith)) ∙ or-false (bit acc a) ∙ done.settled a l
-        pick a h (no l) =
-            let s : a ≡ k = omega arith in
-            rw s (marked_new m ∙ sym (rw e at f))
+        pick a h (no l) = let s : a ≡ k = omega arith in rw s (marked_new m ∙ sym f)
 
-    pub barred_all : {d : ℕ} → k ≡ d → Barred bad g d b acc
-    barred_all e = rw (← e) (record { bits = done.settled })
+-- ---- one place more of a list
+
+pub set_more : {A : Type 0} (P : ℕ → A → Type 0) (xs : List A) (k : ℕ) (x d : A) → k < length xs
+    → ((i : ℕ) → i < k → P i (get_or xs i d)) → P k x → (i : ℕ) → i < k + 1 → P i (get_or (set xs k x) i d)
+set_more P xs k x d inside before here i h = pick (dec_lt i k)
+  where
+    pick : Dec (i < k) → P i (get_or (set xs k x) i d)
+    pick (yes l) = rw (get_or-set_other xs k i x d (λ e. omega arith)) (before i l)
+    pick (no l) = let s : i ≡ k = omega arith in rw (s, get_or-set_same xs k x d inside) here
 
 -- ---- one pair
 
-module _ {bad g d first : ℕ} {old : List ℕ} where
-  pub pair_none : PairFilled bad g d 0 first old old
-  pair_none = record { long = refl; kept = λ i h. refl; rows = λ b h. absurd (omega arith) }
+pub pair_filled : (x y : CircuitPlan) {g bad : ℕ} {row : List ℕ} → 1 ≤ x.cycle → Common x.cycle y.cycle g → Bad g x.uses y.uses bad
+    → RowBarred bad g x.cycle y.cycle row → RowFilled x y row
+unfolding pair_clash
+pair_filled x y {g} {bad} low common m r = record {
+  at = λ a b ha hb. (r.entries b hb).bits a ha ∙ bad_clash (claim x 0) (claim y 0) g bad low common.is m a b;
+}
 
-  module _ {k : ℕ} {grid : List ℕ} (done : PairFilled bad g d k first old grid) where
-    pub pair_more : {x : ℕ} → first + k < length grid → Barred bad g d k x → PairFilled bad g d (k + 1) first old (set grid (first + k) x)
-    pair_more {x} inside new = record {
-      long = length-set grid (first + k) x ∙ done.long;
-      kept = λ i h. get_or-set_other grid (first + k) i x 0 (λ e. omega arith) ∙ done.kept i h;
-      rows = λ b h. pick b h (dec_lt b k);
-    }
-      where
-        pick : (b : ℕ) → b < k + 1 → Dec (b < k) → Barred bad g d b (get_or (set grid (first + k) x) (first + b) 0)
-        pick b h (yes l) = rw (get_or-set_other grid (first + k) (first + b) x 0 (λ e. omega arith)) (done.rows b l)
-        pick b h (no l) = let s : b ≡ k = omega arith in rw (s, get_or-set_same grid (first + k) x 0 inside) new
-
-    pub pair_all : {e : ℕ} → k ≡ e → PairFilled bad g d e first old grid
-    pair_all e = rw (← e) done
-
--- ---- one circuit with those before it
-
--- an entry that was kept
-same_entry : (old grid : List ℕ) (c a e b : ℕ) → get_or grid (pair_at c e + b) 0 ≡ get_or old (pair_at c e + b) 0 → clash_in grid c a e b ≡ clash_in old c a e b
-unfolding clash_in
-same_entry old grid c a e b s = ap (λ x. bit x a) s
-
-module _ {p : List ℕ} {c : ℕ} {old : List ℕ} where
-  pub circuit_none : CircuitFilled p c 0 old old
-  circuit_none = record { long = refl; kept = λ i h. refl; at = λ e a b h. absurd (omega arith) }
-
-  pub circuit_all : {e n : ℕ} {grid : List ℕ} → CircuitFilled p c e old grid → e ≡ n → CircuitFilled p c n old grid
-  circuit_all done s = rw (← s) done
-
-module _ {p : List ℕ} (usable : Usable p) {c : ℕ} (listed : c < circuits_in p) where
-  -- a pair is filled in by its differences
-  entry_new : (e : ℕ) {d f g bad : ℕ} {old new : List ℕ} → d ≡ cycle_in p c → f ≡ cycle_in p e → Common d f g → Bad g (circuit_in p c).uses (circuit_in p e).uses bad
-      → PairFilled bad g d f (pair_at c e) old new → (a b : ℕ) → a < cycle_in p c → b < cycle_in p e → clash_in new c a e b ≡ plan_clash p c a e b
-  unfolding clash_in plan_clash booking_in circuit_in
-  entry_new e {g = g} {bad} is-d is_f common m pair a b ha hb =
-      (pair.rows b (rw is_f hb)).bits a (rw is-d ha)
-      ∙ bad_clash (booking_in p [] c) (booking_in p [] e) g bad (usable.fit c listed).cycle.low (rw (← is-d, ← is_f) common.is) m a b
-
-  pub circuit_more : {e d f g bad : ℕ} {old grid new : List ℕ} → CircuitFilled p c e old grid → e < c → d ≡ cycle_in p c → f ≡ cycle_in p e
-      → Common d f g → Bad g (circuit_in p c).uses (circuit_in p e).uses bad → PairFilled bad g d f (pair_at c e) grid new → CircuitFilled p c (e + 1) old new
-  circuit_more {e} {grid = grid} {new} done he is-d is_f common m pair = record {
-    long = pair.long ∙ done.long;
-    kept = λ i h. pair.kept i (omega arith) ∙ done.kept i h;
-    at = λ e' a b h ha hb. pick e' a b h ha hb (dec_lt e' e);
-  }
-    where
-      pick : (e' a b : ℕ) → e' < e + 1 → a < cycle_in p c → b < cycle_in p e' → Dec (e' < e) → clash_in new c a e' b ≡ plan_clash p c a e' b
-      pick e' a b h ha hb (yes l) =
-          let small = (usable.fit e' (omega arith)).cycle.high in
-          same_entry grid new c a e' b (pair.kept (pair_at c e' + b) (omega arith)) ∙ done.at e' a b l ha hb
-      pick e' a b h ha hb (no l) = let s : e' ≡ e = omega arith in rw s (entry_new e is-d is_f common m pair a b ha (rw (← s) hb))
-
--- ---- all circuits
-
-pub record GridFilled (p : List ℕ) (n : ℕ) (grid : List ℕ) : Type 0 where
-  pub at : (c a e b : ℕ) → c < n → e < c → a < cycle_in p c → b < cycle_in p e → clash_in grid c a e b ≡ plan_clash p c a e b
+-- ---- the whole plan
 
 -- the test of two offsets does not ask for the offsets of the circuits
-clash_stands : {q : Request} {p : List ℕ} → Stands q p → {c e : ℕ} → c < circuits_in p → e < circuits_in p → (a b : ℕ) → plan_clash p c a e b ≡ clash_of q c a e b
-unfolding plan_clash clash_of
+clash_stands : {q : Request} {p : ArrayVec Circuit} → Stands q p → {c e : ℕ} → c < circuits_in p → e < circuits_in p → (a b : ℕ)
+    → pair_clash (circuit_in p c) (circuit_in p e) a b ≡ clash_of q c a e b
+unfolding pair_clash clash_of
 clash_stands {q} {p} s hc he a b =
     let booked : Booked q [] p [] = record { stands = s; taken = λ c h. offsets-zero } in
     rw (booking_is booked hc, booking_is booked he) refl
 
-module _ {p : List ℕ} where
-  pub grid_none : {grid : List ℕ} → GridFilled p 0 grid
-  grid_none = record { at = λ c a e b hc. absurd (omega arith) }
-
-  pub grid_more : {c : ℕ} {grid new : List ℕ} → Usable p → c < circuits_in p → GridFilled p c grid → CircuitFilled p c c grid new → GridFilled p (c + 1) new
-  grid_more {c} {grid} {new} usable h done filled = record { at = λ c' a e b hc he ha hb. pick c' a e b hc he ha hb (dec_lt c' c) }
-    where
-      pick : (c' a e b : ℕ) → c' < c + 1 → e < c' → a < cycle_in p c' → b < cycle_in p e → Dec (c' < c) → clash_in new c' a e b ≡ plan_clash p c' a e b
-      pick c' a e b hc he ha hb (yes l) =
-          let high = (usable.fit e (omega arith)).cycle.high in
-          let few = usable.few in
-          same_entry grid new c' a e b (filled.kept (pair_at c' e + b) (omega arith)) ∙ done.at c' a e b l he ha hb
-      pick c' a e b hc he ha hb (no l) =
-          let s : c' ≡ c = omega arith in
-          rw s (filled.at e a b (omega arith) (rw (← s) ha) hb)
-
-  -- the entries are those of the request
-  pub grid_all : {n c : ℕ} {grid : List ℕ} → GridFilled p c grid → c ≡ n → n ≡ circuits_in p → FilledFor p grid
-  grid_all done s m q stands = record {
-    at = λ c a e b hc he ha hb.
-        done.at c a e b (omega arith) he (rw (cycle_is stands hc) ha) (rw (cycle_is stands {c = e} (omega arith)) hb)
-        ∙ clash_stands stands hc (omega arith) a b;
-  }
+pub grid_filled : (p : ArrayVec Circuit) (grid : List (List (List ℕ)))
+    → ((c : ℕ) → c < circuits_in p → RowsFilled (circuit_in p c) (map shown (take c p.items)) (get_or grid c [])) → FilledFor p grid
+unfolding clash_in
+grid_filled p grid filled q stands = record {
+  at = λ c a e b hc he ha hb.
+      let rows = filled c hc in
+      let inside : e < length (map shown (take c p.items)) = simp (length-map, length-take) (omega arith) in
+      let same : get_or (map shown (take c p.items)) e no_circuit ≡ circuit_in p e = rw (← take-map) (get_or-take c (map shown p.items) e no_circuit he) in
+      (rw same at (rows.at e inside)).at a b (rw (cycle_is stands hc) ha) (rw (cycle_is stands {c = e} (omega arith)) hb)
+      ∙ clash_stands stands hc (omega arith) a b;
+}

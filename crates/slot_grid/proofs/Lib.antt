@@ -1,2 +1,2 @@
--- The laws behind the grid of clashes. Assumes nothing.
-pub mod Filling
+-- The laws behind filling the grid. Assumes nothing.
+mod Filling

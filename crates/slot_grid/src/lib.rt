@@ -2,72 +2,73 @@
 // with it. Assumes nothing.
 #![tactic(auto)]
 
-ghost use Rattle.std.specs.Prelude.{◌≡◌, ◌+◌, ◌<◌, ◌≤◌, length};
-ghost use Rattle.num_divisor.specs.Common.{Cycle};
-ghost use Rattle.plan.specs.Plan.{circuits_in, Usable};
-ghost use Rattle.slot_grid.specs.Table.{Barred, PairFilled, grid_size, CircuitFilled, FilledFor};
+ghost use Rattle.std.specs.Prelude.{◌≤◌, map, length};
+ghost use Rattle.model.specs.Sizes.{circuits_most};
+ghost use Rattle.plan.specs.Plan.{shown};
+ghost use Rattle.slot_grid.specs.Table.{Barred, RowBarred, RowFilled, RowsFilled, FilledFor};
 
 use model::{CIRCUITS_MOST, CYCLE_MOST};
-use plan::Plan;
+use num_divisor::Cycle;
+use plan::{Circuit, Plan};
 
-// An entry for each circuit, each other circuit and each offset of that one.
-pub const GRID_SIZE: usize = CIRCUITS_MOST * CIRCUITS_MOST * CYCLE_MOST;
+// An entry for each offset of the other circuit: the offsets that clash with it.
+pub type Row = [u32; CYCLE_MOST];
 
-pub type Grid = [u32; GRID_SIZE];
+// A row for each other circuit.
+pub type Rows = [Row; CIRCUITS_MOST];
+
+// Those of each circuit with the circuits before it.
+pub type Grid = [Rows; CIRCUITS_MOST];
 
 // The offsets below d that clash with offset b of the other circuit.
-fn barred(bad: u32, g: usize, d: usize, b: usize) -> u32
-    requires cycle { Cycle g }
-    requires cycle_2 { Cycle d }
-    ensures { Barred bad g d b result }
+fn barred(bad: u32, g: Cycle, d: Cycle, b: usize) -> u32
+    ensures { Barred bad g.slots d.slots b result }
 {
     let mut acc = 0u32;
-    for a in 0..d {
+    for a in 0..d.slots {
         let x = num_cyclic::difference(g, a, b);
-        if !num_mask::has(bad, x as u32) {
-            continue;
+        if num_mask::has(bad, x as u32) {
+            acc = num_mask::with(acc, a as u32);
         }
-        acc = num_mask::mark(acc, a as u32);
     }
     acc
 }
 
-// Fills the entries of one pair, which begin at place first.
-fn fill_pair(bad: u32, g: usize, d: usize, e: usize, first: usize, grid: &mut [u32])
-    requires cycle { Cycle g }
-    requires cycle_2 { Cycle d }
-    requires e_in_bounds { first + e ≤ length grid.old }
-    ensures { PairFilled bad g d e first grid.old grid.new }
+// The entries of one pair.
+fn row(bad: u32, g: Cycle, d: Cycle, e: Cycle) -> Row
+    ensures { RowBarred bad g.slots d.slots e.slots result }
 {
-    for b in 0..e {
-        grid[first + b] = barred(bad, g, d, b);
+    let mut entries = [0u32; CYCLE_MOST];
+    for b in 0..e.slots {
+        entries[b] = barred(bad, g, d, b);
     }
+    entries
 }
 
-// Fills the entries of circuit c with each circuit before it.
-fn fill_circuit(p: &Plan, c: usize, grid: &mut [u32])
-    requires usable { Usable p.now × (c < circuits_in p.now) }
-    requires grid_len { length grid.old ≡ grid_size }
-    ensures { CircuitFilled p.now c c grid.old grid.new }
+// The entries of a circuit with another.
+fn pair(own: &Circuit, other: &Circuit) -> Row
+    ensures { RowFilled (shown own.now) (shown other.now) result }
 {
-    let d = plan::cycle(p, c);
-    for e in 0..c {
-        let f = plan::cycle(p, e);
-        let g = num_divisor::common(d, f);
-        let bad = clash_pair::bad_differences(p, c, e, g);
-        let first = (c * CIRCUITS_MOST + e) * CYCLE_MOST;
-        fill_pair(bad, g, d, f, first, grid);
+    let g = own.cycle.common(other.cycle);
+    let bad = clash_pair::bad_differences(own, other, g);
+    row(bad, g, own.cycle, other.cycle)
+}
+
+// Fills the rows of a circuit with those before it.
+fn fill_rows(own: &Circuit, earlier: &[Circuit], rows: &mut Rows)
+    requires { length earlier.now ≤ circuits_most }
+    ensures { RowsFilled (shown own.now) (map shown earlier.now) rows.new }
+{
+    for (e, other) in earlier.iter().enumerate() {
+        rows[e] = pair(own, other);
     }
 }
 
 // Fills the grid of the offsets of a plan's circuits that clash.
-pub fn fill(p: &Plan, grid: &mut [u32])
-    requires usable { Usable p.now }
-    requires grid_len { length grid.old ≡ grid_size }
+pub fn fill(p: &Plan, grid: &mut Grid)
     ensures { FilledFor p.now grid.new }
 {
-    let n = plan::circuits(p);
-    for c in 0..n {
-        fill_circuit(p, c, grid);
+    for (c, own) in p.iter().enumerate() {
+        fill_rows(own, &p[..c], &mut grid[c]);
     }
 }

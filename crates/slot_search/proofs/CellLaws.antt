@@ -1,28 +1,34 @@
--- A skip that is allowed or not, the end of a circuit's cells, and a problem that stays ready. Assumes nothing.
+-- A skip that is allowed or not, and the end of a circuit's cells. Assumes nothing.
 use mathlib.Core.Path.{◌≡◌, sym, ap, ◌∙◌}
 use mathlib.Core.Bool.{Bool, true, false}
 use mathlib.Core.List.{List, [], ◌∷◌, ◌++◌, map, map-append}
 use Prim.Native.Nat.{ℕ, ◌+◌, ◌-◌, ◌^◌, ◌≤◌, ◌<◌}
 use native.Mathlib.Numerals.{add-one}
 use native.Mathlib.Omega.{arith}
-use lib.ListN.{length, take, set, length-map}
+use lib.ListN.{length, get_or, take, set, length-map}
 use lib.Seq.{length-take-le, take-suc-set, take-set-le, take-take}
 use lib.Count.{ones}
 use borrow.Author.Tests.{le-leb, lt-leb}
+use Rattle.arrayvec.specs.ArrayVec.{ArrayVec}
+use Rattle.plan.specs.declared.Circuit.{Circuit}
 use Rattle.model.specs.Sizes.{cycle_most}
 use Rattle.model.specs.Search.{Walk, choice}
 use Rattle.num_mask.specs.Bits.{offsets}
 use Rattle.num_mask.proofs.Laws.{offsets-length}
-use Rattle.plan.specs.Plan.{circuits_in, cycle_in, demand_in}
-use Rattle.slot_search.specs.Code.{Ready, from_circuit, from_cell, CircuitEnds, CellEnds}
-use Rattle.slot_search.specs.declared.Outcome.{Outcome}
+use Rattle.plan.specs.Plan.{shown, circuits_in, circuit_in, cycle_in}
+use Rattle.plan.proofs.Laws.{circuit_at}
+use Rattle.slot_search.specs.Code.{Walked, demand_in, from_circuit, from_cell, CircuitEnds, CellEnds}
 use Rattle.slot_search.proofs.WalkLaws.{from_skip, cell_end}
 use Rattle.slot_search.proofs.EndsLaws.{ends_same}
+
+-- the circuit that stands at place c of a plan's list
+pub own_is : (p : ArrayVec Circuit) (c : ℕ) (own : Circuit) {xs : List Circuit} → xs ≡ p.items → c < length xs → own ≡ get_or xs c own → shown own ≡ circuit_in p c
+own_is p c own {xs} e h is = rw e at (circuit_at xs c own h is)
 
 pub earlier_length : (taken : List ℕ) (c : ℕ) → c ≤ length taken → length (map offsets (take c taken)) ≡ c
 earlier_length taken c h = length-map (take c taken) offsets ∙ length-take-le c taken h
 
-module _ (grid p : List ℕ) (c : ℕ) (earlier : List (List ℕ)) (shut d a mask : ℕ) (fits : mask < 2 ^ cycle_most) (inside : a < d) where
+module _ (grid : List (List (List ℕ))) (p : ArrayVec Circuit) (c : ℕ) (earlier : List (List ℕ)) (shut d a mask : ℕ) (fits : mask < 2 ^ cycle_most) (inside : a < d) where
   abbrev N : ℕ
   N = demand_in p c
 
@@ -45,7 +51,7 @@ module _ (grid p : List ℕ) (c : ℕ) (earlier : List (List ℕ)) (shut d a mas
       ap (λ (b : Bool). choice b past) (le-leb N (length (offsets mask) + (d - (a + 1))) (omega arith))
 
 -- the last cell of circuit c is behind: its mask is stored, and the walk goes on at the next circuit
-pub ends_circuit : (grid p : List ℕ) (c shut a mask l : ℕ) (old new : List ℕ) (r : Outcome)
+pub ends_circuit : (grid : List (List (List ℕ))) (p : ArrayVec Circuit) (c shut a mask l : ℕ) (old new : List ℕ) (r : Walked)
     → a ≡ cycle_in p c → c < circuits_in p → circuits_in p ≤ length old
     → CircuitEnds grid p (c + 1) l (set old c mask) new r → CellEnds grid p c a mask shut l old new r
 ends_circuit grid p c shut a mask l old new r e listed room h =
@@ -61,7 +67,3 @@ ends_circuit grid p c shut a mask l old new r e listed room h =
           ∙ take-take c (c + 1) (set old c mask) (omega arith) ∙ take-set-le c old c mask (omega arith);
       holds = g.holds;
     }
-
--- a problem stays ready where the masks change and their number does not
-pub ready_as : {p old new : List ℕ} → length new ≡ length old → Ready p old → Ready p new
-ready_as e h = record { plan = h.plan; room = omega (arith, h.room) }

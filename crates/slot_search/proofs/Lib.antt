@@ -1,6 +1,6 @@
 -- What the proofs of the functions use. Assumes nothing.
 mod WalkLaws
-mod EndsLaws
+pub mod EndsLaws
 mod CellLaws
 mod LoopLaws
 mod NumberLaws

@@ -13,39 +13,40 @@ use lib.Dec.{ltb}
 use lib.Count.{ones}
 use lib.Bits.{bit_or}
 use borrow.Author.Tests.{lt-ltb, le-ltb, eq-eqb, ne_eqb, eqb-true}
-use Rattle.model.specs.Sizes.{cycle_most}
+use Rattle.arrayvec.specs.ArrayVec.{ArrayVec}
+use Rattle.plan.specs.declared.Circuit.{Circuit}
+use Rattle.model.specs.Sizes.{circuits_most, cycle_most}
 use Rattle.model.specs.Tests.{◌and◌, neg}
 use Rattle.model.specs.Search.{Walk, choice, then_try}
 use Rattle.num_mask.specs.Bits.{bit, offsets, Above}
 use Rattle.num_mask.proofs.Laws.{offsets-length, offsets_more}
-use Rattle.plan.specs.Plan.{circuits_in, cycle_in, demand_in, InBounds}
+use Rattle.plan.specs.Plan.{circuits_in, cycle_in}
 use Rattle.slot_cells.specs.Cells.{SkippedTo}
-use Rattle.slot_search.specs.Code.{Inside, from_cell, WalkEnds, CircuitEnds, CellEnds}
-use Rattle.slot_search.specs.declared.Outcome.{Outcome}
-use Rattle.slot_search.specs.declared.Outcome.TheVariants.{NoRoom, Over}
+use Rattle.plan.proofs.Laws.{fits}
+use Rattle.std.specs.declared.result.Result.TheVariants.{Ok}
+use Rattle.slot_search.specs.Code.{Walked, over, demand_in, Inside, from_cell, WalkEnds, CircuitEnds, CellEnds}
+use Rattle.slot_search.specs.declared.Outcome.TheVariants.{NoRoom}
 use Rattle.slot_search.proofs.WalkLaws.{from_take, from_skip, cell_split}
 use Rattle.slot_search.proofs.EndsLaws.{ends_same, ends_visit, ends_broke, ends_shut, ends_answered, ends_over, ends_second}
 use Rattle.slot_search.proofs.CellLaws.{skip_no, skip_yes, ends_circuit}
 
 -- at cell a of circuit c, with the masks `now` and `left` visits to spare
-pub record Turn (grid p : List ℕ) (c from mask shut budget : ℕ) (old now : List ℕ) (a left : ℕ) : Type 0 where
+pub record Turn (grid : List (List (List ℕ))) (p : ArrayVec Circuit) (c from mask shut budget : ℕ) (old now : List ℕ) (a left : ℕ) : Type 0 where
   pub started : from ≤ a
   pub within : a ≤ cycle_in p c
-  pub fit : InBounds p c
   pub low : mask < 2 ^ a
-  pub sized : length now ≡ length old
+  pub long : length now ≡ circuits_most
   pub kept : take c now ≡ take c old
   pub goes_on :
-      (new : List ℕ) (r : Outcome) → CellEnds grid p c a mask shut left now new r → CellEnds grid p c from mask shut budget old new r
+      (new : List ℕ) (r : Walked) → CellEnds grid p c a mask shut left now new r → CellEnds grid p c from mask shut budget old new r
 
-pub turn_start : (grid p : List ℕ) (c from mask shut budget : ℕ) (old : List ℕ) → Inside p c from mask → InBounds p c
+pub turn_start : (grid : List (List (List ℕ))) (p : ArrayVec Circuit) (c from mask shut budget : ℕ) (old : List ℕ) → Inside p c from mask → length old ≡ circuits_most
     → Turn grid p c from mask shut budget old old from budget
-turn_start grid p c from mask shut budget old h f = record {
+turn_start grid p c from mask shut budget old h long = record {
   started = omega arith;
   within = h.within;
-  fit = f;
   low = h.low;
-  sized = refl;
+  long = long;
   kept = refl;
   goes_on = λ new r g. g;
 }
@@ -55,7 +56,7 @@ unfolding ◌and◌
 and_no true = refl
 and_no false = refl
 
-module _ {grid p : List ℕ} {c from mask shut budget : ℕ} {old now : List ℕ} {a left : ℕ}
+module _ {grid : List (List (List ℕ))} {p : ArrayVec Circuit} {c from mask shut budget : ℕ} {old now : List ℕ} {a left : ℕ}
     (t : Turn grid p c from mask shut budget old now a left) where
   abbrev D : ℕ
   D = cycle_in p c
@@ -67,7 +68,7 @@ module _ {grid p : List ℕ} {c from mask shut budget : ℕ} {old now : List ℕ
   before = map offsets (take c now)
 
   -- the walk from the loop's start came to r
-  abbrev pub Whole : List ℕ → Outcome → Type 0
+  abbrev pub Whole : List ℕ → Walked → Type 0
   Whole new r = CellEnds grid p c from mask shut budget old new r
 
   abbrev on : Walk
@@ -80,18 +81,18 @@ module _ {grid p : List ℕ} {c from mask shut budget : ℕ} {old now : List ℕ
   skipping mid = from_skip grid p c (map offsets (take c mid)) shut (D - (a + 1)) a (offsets mask)
 
   -- the walk where the cell is taken came to r
-  abbrev pub Tried : List ℕ → Outcome → Type 0
+  abbrev pub Tried : List ℕ → Walked → Type 0
   Tried mid r = WalkEnds taking (circuits_in p) c left now mid r
 
   -- what the code's call for a cell that is taken ensures
-  abbrev pub Called : List ℕ → Outcome → Type 0
-  Called mid r = CellEnds grid p c (a + 1) (bit_or mask ((1 * 2 ^ a) % 2 ^ cycle_most)) shut (left - 1) now mid r
+  abbrev pub Called : (rest : ℕ) → List ℕ → Walked → Type 0
+  Called rest mid r = CellEnds grid p c (a + 1) (bit_or mask ((1 * 2 ^ a) % 2 ^ cycle_most)) shut rest now mid r
 
   pub word : mask < 2 ^ cycle_most
-  word = lt_of_lt_of_le t.low (pow_mono {i = a} {j = cycle_most} (let x = t.within in let y = t.fit.cycle.high in omega arith))
+  word = lt_of_lt_of_le t.low (pow_mono {i = a} {j = cycle_most} (let x = t.within in let y = (fits p c).cycle.high in omega arith))
 
   pub above : a < D → Above mask a
-  above i = let x = t.fit.cycle.high in record { inside = omega arith; low = t.low }
+  above i = let x = (fits p c).cycle.high in record { inside = omega arith; low = t.low }
 
   -- ---- whether take is allowed
 
@@ -122,32 +123,29 @@ module _ {grid p : List ℕ} {c from mask shut budget : ℕ} {old now : List ℕ
   -- ---- taking the cell
 
   -- the code's call came to r, as o has it
-  tried_by : a < D → ones mask < N → shut / 2 ^ a % 2 ≡ 0 → (left ≡ 0 → ⊥) → {mid : List ℕ} {r o : Outcome} → r ≡ o → Called mid r → Tried mid o
-  tried_by i l h z {mid} {r} {o} e g =
+  tried_by : a < D → ones mask < N → shut / 2 ^ a % 2 ≡ 0 → {rest : ℕ} → rest + 1 ≡ left → {mid : List ℕ} {r o : Walked} → r ≡ o → Called rest mid r → Tried mid o
+  tried_by i l h {rest} z {mid} {r} {o} e g =
       ends_same (sym (take_open l h))
-      (ends_visit left (omega arith)
+      (ends_visit z
       (ends_same (ap (λ (k : List ℕ). from_cell grid p c shut before (D - (a + 1)) (a + 1) k) (offsets_more (above i)).parts)
-      (subst (λ (q : Outcome). Called mid q) e g)))
+      (subst (λ (q : Walked). Called rest mid q) e g)))
 
   -- where the ways through a cell meet, with the masks `new` and k visits to spare: it was tried and came to nothing, or was not allowed
   abbrev pub Nothing : List ℕ → ℕ → Type 0
-  Nothing new k = (length new ≡ length now) × Tried new (NoRoom k)
+  Nothing new k = (length new ≡ circuits_most) × Tried new (Ok (NoRoom k))
 
-  pub tried : a < D → ones mask < N → shut / 2 ^ a % 2 ≡ 0 → (left ≡ 0 → ⊥) → {mid new : List ℕ} {r : Outcome} {m k : ℕ}
-      → r ≡ NoRoom m → Called mid r → length mid ≡ length now → new ≡ mid → k ≡ m → Nothing new k
+  pub tried : a < D → ones mask < N → shut / 2 ^ a % 2 ≡ 0 → {rest : ℕ} → rest + 1 ≡ left → {mid new : List ℕ} {r : Walked} {m k : ℕ}
+      → r ≡ Ok (NoRoom m) → Called rest mid r → length mid ≡ circuits_most → new ≡ mid → k ≡ m → Nothing new k
   tried i l h z {mid} {new} {r} {m} {k} e g s x y = rw (x, y) (s, tried_by i l h z e g)
 
   not_taken : {new : List ℕ} {k : ℕ} → taking ≡ choice false on → new ≡ now → k ≡ left → Nothing new k
-  not_taken e x y = rw (x, y) (refl, ends_same (sym e) (ends_shut on left))
+  not_taken e x y = rw (x, y) (t.long, ends_same (sym e) (ends_shut on left))
 
   pub not_free : (shut / 2 ^ a % 2 ≡ 0 → ⊥) → {new : List ℕ} {k : ℕ} → new ≡ now → k ≡ left → Nothing new k
   not_free h x y = not_taken (take-barred h) x y
 
   pub not_wanted : N ≤ ones mask → {new : List ℕ} {k : ℕ} → new ≡ now → k ≡ left → Nothing new k
   not_wanted h x y = not_taken (take_full h) x y
-
-  pub nothing-long : {new : List ℕ} {k : ℕ} → Nothing new k → length new ≡ length old
-  nothing-long h = h.0 ∙ t.sized
 
   -- ---- the ways out of a turn, and on to the next
 
@@ -156,14 +154,14 @@ module _ {grid p : List ℕ} {c from mask shut budget : ℕ} {old now : List ℕ
     split = cell_split grid p c before shut D a (offsets mask) inside
 
     -- the code's call came to an answer, or the budget is spent
-    pub out_answered : ones mask < N → shut / 2 ^ a % 2 ≡ 0 → (left ≡ 0 → ⊥) → {mid : List ℕ} {r : Outcome} → ((k : ℕ) → r ≡ NoRoom k → ⊥)
-        → Called mid r → Whole mid r
-    out_answered l h z {mid} {r} other g = t.goes_on mid r (ends_same (sym split) (ends_answered (skipping now) r other (tried_by inside l h z refl g)))
+    pub out_answered : ones mask < N → shut / 2 ^ a % 2 ≡ 0 → {rest : ℕ} → rest + 1 ≡ left → {mid : List ℕ} {r o : Walked} → r ≡ o
+        → ((k : ℕ) → o ≡ Ok (NoRoom k) → ⊥) → Called rest mid r → Whole mid o
+    out_answered l h z {mid} {r} {o} e other g = t.goes_on mid o (ends_same (sym split) (ends_answered (skipping now) o other (tried_by inside l h z e g)))
 
-    pub out_spent : ones mask < N → shut / 2 ^ a % 2 ≡ 0 → left ≡ 0 → Whole now Over
-    out_spent l h z = t.goes_on now Over (ends_same (sym split) (ends_over (skipping now) (ends_same (sym (take_open l h)) (ends_broke on left z))))
+    pub out_spent : ones mask < N → shut / 2 ^ a % 2 ≡ 0 → left ≡ 0 → Whole now over
+    out_spent l h z = t.goes_on now over (ends_same (sym split) (ends_over (skipping now) (ends_same (sym (take_open l h)) (ends_broke on left z))))
 
-    after-take : {mid new : List ℕ} {k : ℕ} {r : Outcome} → Nothing mid k → WalkEnds (skipping mid) (circuits_in p) c k mid new r → Whole new r
+    after-take : {mid new : List ℕ} {k : ℕ} {r : Walked} → Nothing mid k → WalkEnds (skipping mid) (circuits_in p) c k mid new r → Whole new r
     after-take {mid} {new} {k} {r} h g =
         let same : skipping mid ≡ skipping now =
         ap (λ (x : List ℕ). from_skip grid p c (map offsets x) shut (D - (a + 1)) a (offsets mask)) h.1.kept in
@@ -179,28 +177,27 @@ module _ {grid p : List ℕ} {c from mask shut budget : ℕ} {old now : List ℕ
     not_allowed : (mid : List ℕ) → D + ones mask ≤ N + a → choice false (past mid) ≡ skipping mid
     not_allowed mid q = sym (skip_no grid p c (map offsets (take c mid)) shut D a mask word inside q)
 
-    pub out_shut : {mid : List ℕ} {k : ℕ} → Nothing mid k → D + ones mask ≤ N + a → Whole mid (NoRoom k)
+    pub out_shut : {mid : List ℕ} {k : ℕ} → Nothing mid k → D + ones mask ≤ N + a → Whole mid (Ok (NoRoom k))
     out_shut {mid} {k} h q = after-take h (ends_same (not_allowed mid q) (ends_shut (past mid) k))
 
-    pub out_broke : {mid : List ℕ} {k : ℕ} → Nothing mid k → N + a < D + ones mask → k ≡ 0 → Whole mid Over
+    pub out_broke : {mid : List ℕ} {k : ℕ} → Nothing mid k → N + a < D + ones mask → k ≡ 0 → Whole mid over
     out_broke {mid} {k} h q z = after-take h (ends_same (allowed mid q) (ends_broke (past mid) k z))
 
-    pub turn_again : {mid : List ℕ} {k : ℕ} → Nothing mid k → N + a < D + ones mask → (k ≡ 0 → ⊥)
-        → Turn grid p c from mask shut budget old mid (a + 1) (k - 1)
+    pub turn_again : {mid : List ℕ} {k rest : ℕ} → Nothing mid k → N + a < D + ones mask → rest + 1 ≡ k
+        → Turn grid p c from mask shut budget old mid (a + 1) rest
     turn_again {mid} {k} h q z =
         let s = t.started in
         record {
           started = omega arith;
           within = omega arith;
-          fit = t.fit;
           low = lt_of_lt_of_le t.low (pow_mono {i = a} {j = a + 1} (omega arith));
-          sized = h.0 ∙ t.sized;
+          long = h.0;
           kept = h.1.kept ∙ t.kept;
-          goes_on = λ new r g. after-take h (ends_same (allowed mid q) (ends_visit k (omega arith) g));
+          goes_on = λ new r g. after-take h (ends_same (allowed mid q) (ends_visit z g));
         }
 
   -- the last cell is behind
-  pub out_end : D ≤ a → c < circuits_in p → circuits_in p ≤ length now → {new : List ℕ} {r : Outcome}
+  pub out_end : D ≤ a → c < circuits_in p → circuits_in p ≤ length now → {new : List ℕ} {r : Walked}
       → CircuitEnds grid p (c + 1) left (set now c mask) new r → Whole new r
   out_end e listed room {new} {r} h =
       let w = t.within in
@@ -212,7 +209,7 @@ set-bit : (x i : ℕ) → bit x i ≡ true → x / 2 ^ i % 2 ≡ 0 → ⊥
 unfolding bit
 set-bit x i e z = omega (arith, eqb-true (x / 2 ^ i % 2) 1 e)
 
-module _ {grid p : List ℕ} {c from mask shut budget : ℕ} {old now : List ℕ} {a left r : ℕ}
+module _ {grid : List (List (List ℕ))} {p : ArrayVec Circuit} {c from mask shut budget : ℕ} {old now : List ℕ} {a left r : ℕ}
     (t : Turn grid p c from mask shut budget old now a left)
     (s : SkippedTo shut a (cycle_in p c) (demand_in p c) (ones mask) r) where
   abbrev At : ℕ → ℕ → Type 0
@@ -232,17 +229,17 @@ module _ {grid p : List ℕ} {c from mask shut budget : ℕ} {old now : List ℕ
       let u = turn_past n (omega arith) (omega arith) in
       let m = s.may (omega arith) in
       let w = s.within in
-      let on = turn_again u (omega arith) (only_skipped (a + n) (left - n) (omega arith) (omega arith) u) (omega arith) (λ e. omega arith) in
-      subst (λ (x : ℕ). At x (left - suc n)) (omega arith) (subst (λ (y : ℕ). At (a + n + 1) y) (omega arith) on)
+      let on = turn_again u (omega arith) {rest = left - suc n} (only_skipped (a + n) (left - n) (omega arith) (omega arith) u) (omega arith) (omega arith) in
+      subst (λ (x : ℕ). At x (left - suc n)) (omega arith) on
 
   -- past all of them
-  pub turn_on : r - a ≤ left → At r (left - (r - a))
-  turn_on h =
+  pub turn_on : {rest : ℕ} → rest + (r - a) ≡ left → At r rest
+  turn_on {rest} h =
       let b = s.started in
-      subst (λ (x : ℕ). At x (left - (r - a))) (omega arith) (turn_past (r - a) (omega arith) (omega arith))
+      subst (λ (x : ℕ). At x rest) (omega arith) (subst (λ (y : ℕ). At (a + (r - a)) y) (omega arith) (turn_past (r - a) (omega arith) (omega arith)))
 
   -- the budget ends among them
-  pub out_short : left < r - a → Whole t now Over
+  pub out_short : left < r - a → Whole t now over
   out_short h =
       let u = turn_past left (omega arith) (omega arith) in
       let m = s.may (omega arith) in

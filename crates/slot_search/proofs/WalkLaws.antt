@@ -9,19 +9,21 @@ use native.Mathlib.Omega.{arith}
 use lib.ListN.{length, drop, drop_of_length-le}
 use lib.Seq.{drop-cons}
 use lib.Dec.{leb, ltb}
+use Rattle.arrayvec.specs.ArrayVec.{ArrayVec}
+use Rattle.plan.specs.declared.Circuit.{Circuit}
 use Rattle.model.specs.Tests.{◌and◌, neg}
-use Rattle.model.specs.Network.{Circuit, no_circuit}
+use Rattle.model.specs.Network.{Circuit as Asked, no_circuit}
 use Rattle.model.specs.Search.{Walk, found, barred, cells, choice, then_try, search}
 use Rattle.model.proofs.Tests.{length-up_to, get_or-up_to}
 use Rattle.num_mask.specs.Bits.{bit, offsets}
 use Rattle.num_mask.proofs.Laws.{offsets-zero}
-use Rattle.plan.specs.Plan.{circuits_in, cycle_in, demand_in}
+use Rattle.plan.specs.Plan.{circuits_in, cycle_in}
 use Rattle.slot_grid.specs.Table.{clash_in}
-use Rattle.slot_search.specs.Code.{pathless, circuits, from_circuit, from_cell}
+use Rattle.slot_search.specs.Code.{demand_in, pathless, circuits, from_circuit, from_cell}
 
 -- ---- the walk
 
-module _ (grid p : List ℕ) (c : ℕ) (earlier : List (List ℕ)) where
+module _ (grid : List (List (List ℕ))) (p : ArrayVec Circuit) (c : ℕ) (earlier : List (List ℕ)) where
   pub circuit_end : c ≡ circuits_in p → from_circuit grid p c earlier ≡ found 0 earlier
   unfolding from_circuit circuits search
   circuit_end l =
@@ -34,7 +36,7 @@ module _ (grid p : List ℕ) (c : ℕ) (earlier : List (List ℕ)) where
   first l =
       let inside : c < length (circuits p) = omega (arith, length-up_to (circuits_in p) (pathless p)) in
       drop-cons (circuits p) c no_circuit inside
-      ∙ ap (λ (x : Circuit). x ∷ drop (suc c) (circuits p)) (get_or-up_to (circuits_in p) (pathless p) c no_circuit l)
+      ∙ ap (λ (x : Asked). x ∷ drop (suc c) (circuits p)) (get_or-up_to (circuits_in p) (pathless p) c no_circuit l)
 
   pub circuit_enter : (shut : ℕ) → c < circuits_in p → length earlier ≡ c
       → ((i : ℕ) → bit shut i ≡ barred (clash_in grid) c i 0 earlier)

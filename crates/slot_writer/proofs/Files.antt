@@ -1,41 +1,30 @@
--- The assignment by masks is the model's for the offsets that the masks stand for. Assumes nothing.
-use Prim.Native.Nat.{ℕ, ◌+◌}
-use mathlib.Core.Path.{◌≡◌, sym, ap, ◌∙◌}
-use mathlib.Core.List.{List, [], ◌++◌, map}
-use native.Mathlib.Omega.{arith}
-use lib.ListN.{length, get_or}
+-- Offsets byte by byte, and the assignment record by record. Assumes nothing.
+use Rattle.std.proofs.Common.{ℕ, ◌+◌, ◌≡◌, List, [], ◌∷◌, ◌++◌, map, length, refl, ap, ◌∙◌}
+use Rattle.std.proofs.lemmas.Simd.{map-map}
 use Rattle.model.specs.Sizes.{head_size, offsets_kind, end_kind}
-use Rattle.model.specs.Tests.{up_to, joined, sum}
+use Rattle.model.specs.Tests.{joined}
 use Rattle.model.specs.Bytes.{record_of}
 use Rattle.model.specs.Jobs.{assignment_bytes}
-use Rattle.model.proofs.Tests.{up_to_back, up_to_same, map-up_to}
-use Rattle.model.proofs.Written.{length_record}
 use Rattle.num_mask.specs.Bits.{offsets}
-use Rattle.plan.specs.Plan.{circuits_in}
 use Rattle.file_writer.proofs.Files.{file_length}
-use Rattle.file_writer.proofs.Lists.{joined_length}
-use Rattle.slot_writer.specs.Files.{offsets_record, assignment_room, MasksFor}
+use Rattle.slot_writer.specs.Files.{offsets_record}
 
--- the record of circuit c, and all records
-abbrev pub part_of : (m : List ℕ) (c : ℕ) → List ℕ
-part_of m c = offsets_record (get_or m c 0)
+-- a byte
+abbrev pub byte_of : ℕ → List ℕ
+byte_of a = a ∷ []
 
-abbrev pub parts : (p m : List ℕ) → List ℕ
-parts p m = joined (up_to (circuits_in p) (part_of m))
+pub joined-bytes : (xs : List ℕ) → joined (map byte_of xs) ≡ xs
+unfolding joined
+joined-bytes [] = refl
+joined-bytes (x ∷ xs) = ap (λ l. x ∷ l) (joined-bytes xs)
 
-pub assignment_room_lem : (p m : List ℕ) → assignment_room p m ≡ length (parts p m) + head_size
-unfolding assignment_room
-assignment_room_lem p m =
-    let each = up_to_same (circuits_in p) (λ c. length (part_of m c)) (λ c. head_size + length (offsets (get_or m c 0))) (λ c h. length_record offsets_kind _) in
-    omega (arith, joined_length (circuits_in p) (part_of m), ap sum each)
+-- the records
+abbrev pub parts : List ℕ → List ℕ
+parts masks = joined (map offsets_record masks)
 
-module _ {assigned : List (List ℕ)} {p m : List ℕ} (a : MasksFor assigned p m) where
-  pub assignment_is : assignment_bytes assigned ≡ parts p m ++ record_of end_kind []
-  unfolding assignment_bytes
-  assignment_is =
-      let same : up_to (circuits_in p) (λ c. offsets (get_or m c 0)) ≡ assigned = rw (← a.each) (up_to_back assigned _ [] (λ c h. sym (a.taken c (omega (arith, a.each))))) in
-      ap (λ l. joined l ++ record_of end_kind []) (ap (map (record_of offsets_kind)) (sym same) ∙ map-up_to (record_of offsets_kind) (circuits_in p) _)
+pub assignment_is : (masks : List ℕ) → assignment_bytes (map offsets masks) ≡ parts masks ++ record_of end_kind []
+unfolding assignment_bytes
+assignment_is masks = ap (λ l. joined l ++ record_of end_kind []) (map-map (record_of offsets_kind) offsets masks)
 
-  -- how long it is
-  pub assignment_size_lem : length (assignment_bytes assigned) ≡ assignment_room p m
-  assignment_size_lem = omega (arith, ap length assignment_is, file_length (parts p m), assignment_room_lem p m)
+pub assignment-length : (masks : List ℕ) → length (assignment_bytes (map offsets masks)) ≡ length (parts masks) + head_size
+assignment-length masks = ap length (assignment_is masks) ∙ file_length (parts masks)

@@ -1,2 +1,2 @@
--- Laws of the assignment that is written. Assumes nothing.
+-- The laws behind the assignment by masks. Assumes nothing.
 pub mod Files

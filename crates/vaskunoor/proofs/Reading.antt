@@ -1,26 +1,25 @@
--- What is told of a request that was read, in the words of the job, for `search`. Assumes nothing.
-use mathlib.Core.Path.{◌≡◌, refl, ap, ◌∙◌}
-use mathlib.Core.List.{List, []}
+-- What is told of a request that was read, in the words of the job. Assumes nothing.
 use Prim.Native.Nat.{ℕ}
-use Rattle.model.specs.Sizes.{request_file}
+use mathlib.Core.Path.{◌≡◌, refl, sym, ap, ◌∙◌}
+use mathlib.Core.List.{List, []}
+use Rattle.std.specs.declared.result.Result.TheVariants.{Ok, Err}
+use Rattle.arrayvec.specs.ArrayVec.{ArrayVec}
 use Rattle.model.specs.Tests.{or_else}
+use Rattle.model.specs.Answers.{damage}
 use Rattle.model.specs.Reading.{request_walk}
 use Rattle.model.specs.Jobs.{Contract, read, read_request}
+use Rattle.model.specs.declared.File.TheVariants.{Request as RequestFile}
+use Rattle.model.specs.declared.Damage.{Damage}
 use Rattle.model.specs.declared.Answer.{Answer}
-use Rattle.model.specs.declared.Answer.TheVariants.{Done}
-use Rattle.model.proofs.Readers.{request_byte_fits}
-use Rattle.file_records.specs.Fields.{places_of}
-use Rattle.file_records.specs.declared.Places.{Places}
-use Rattle.plan_refusal.specs.Found.{found}
-use Rattle.plan_refusal.specs.declared.Refusal.{Refusal}
-use Rattle.plan_load.specs.Loaded.{damage_of, ByteFits}
-use Rattle.plan_load.proofs.Damage.{damage_is, fits}
-use Rattle.plan_load.proofs.Loading.{ending_is}
+use Rattle.model.specs.declared.Answer.TheVariants.{Done, Damaged}
+use Rattle.file_records.specs.Walks.{places_of}
+use Rattle.file_records.proofs.Endings.{places-whole, places-stopped}
 
-module _ (s : List ℕ) (r : Places) (e : r ≡ places_of (request_walk s)) where
-  pub read_fits : ByteFits r.ending
-  read_fits = fits (request_walk s) (ending_is (request_walk s) e) (request_byte_fits s)
+module _ (s : List ℕ) where
+  pub read_whole : (v : ArrayVec ℕ) → Ok v ≡ places_of (request_walk s) → Contract (read s) Done []
+  unfolding read_request or_else
+  read_whole v e = record { answer = sym (ap (λ w. or_else (damage RequestFile w) Done) (places-whole (request_walk s) v e)); area = refl }
 
-  pub read_told : (x : Refusal) → found x ≡ damage_of request_file r.ending → (a : Answer) → a ≡ or_else (found x) Done → Contract (read s) a []
-  unfolding read_request
-  read_told x h a is = record { answer = is ∙ ap (λ o. or_else o Done) (h ∙ damage_is request_file (request_walk s) (ending_is (request_walk s) e)); area = refl }
+  pub read_damaged : (d : Damage) (a : Answer) → Err d ≡ places_of (request_walk s) → a ≡ Damaged RequestFile d.fault d.byte → Contract (read s) a []
+  unfolding read_request or_else
+  read_damaged d a e h = record { answer = h ∙ sym (ap (λ w. or_else (damage RequestFile w) Done) (places-stopped (request_walk s) d e)); area = refl }

@@ -2,6 +2,7 @@
 // A write that fails ends it with an error. Assumes what std assumes of the system's calls.
 #![tactic(auto)]
 
+use call_answer::Details;
 use model::Answer;
 use std::io;
 use std::io::Write;
@@ -50,37 +51,27 @@ fn main(rt: HostRuntime) -> io::Result<()> {
     let mut out = io::writer(&rt);
     show(
         &mut out,
-        b"one line serves both offsets",
+        "one line serves both offsets",
         vaskunoor::check_tables(&TWO_SLOTS, &OFFSETS_0_2, &SINGLE_LINE),
     )?;
     show_no_circuits(&mut out)?;
-    show(&mut out, b"an empty request", vaskunoor::read_request(b""))?;
-    show(&mut out, b"D 32", vaskunoor::read_request(&one_circuit(32)))?;
-    show(&mut out, b"D 33", vaskunoor::read_request(&one_circuit(33)))?;
-    show(&mut out, b"H 16", vaskunoor::read_request(&SIXTEEN_HOPS))?;
-    show(&mut out, b"H 17", vaskunoor::read_request(&SEVENTEEN_HOPS))
+    show(&mut out, "an empty request", vaskunoor::read_request(b""))?;
+    show(&mut out, "D 32", vaskunoor::read_request(&one_circuit(32)))?;
+    show(&mut out, "D 33", vaskunoor::read_request(&one_circuit(33)))?;
+    show(&mut out, "H 16", vaskunoor::read_request(&SIXTEEN_HOPS))?;
+    show(&mut out, "H 17", vaskunoor::read_request(&SEVENTEEN_HOPS))
 }
 
 // Allocates where nothing is to be done, in an area that is one byte longer than the end record, and writes the area.
 fn show_no_circuits<W: Write>(out: &mut W) -> io::Result<()> {
     let mut area = [0xeeu8; 5];
     let answer = vaskunoor::allocate(&NO_CIRCUITS, 0, &mut area);
-    show(out, b"no circuits", answer)?;
-    show_area(out, &area)
-}
-
-fn show_area<W: Write>(out: &mut W, area: &[u8; 5]) -> io::Result<()> {
-    out.write_all(b"  area")?;
-    show_byte(out, area[0])?;
-    show_byte(out, area[1])?;
-    show_byte(out, area[2])?;
-    show_byte(out, area[3])?;
-    show_byte(out, area[4])?;
-    out.write_all(b"\n")
-}
-
-fn show_byte<W: Write>(out: &mut W, byte: u8) -> io::Result<()> {
-    write!(out, " {byte:02x}")
+    show(out, "no circuits", answer)?;
+    write!(out, "  area")?;
+    for byte in &area {
+        write!(out, " {byte:02x}")?;
+    }
+    writeln!(out)
 }
 
 // The request with one buffer and one circuit of this cycle.
@@ -91,18 +82,7 @@ fn one_circuit(cycle: u8) -> [u8; 24] {
 }
 
 // Writes the name of a case and what was answered.
-fn show<W: Write>(out: &mut W, name: &[u8], answer: Answer) -> io::Result<()> {
-    let told = call_answer::hand_out(answer);
-    out.write_all(name)?;
-    out.write_all(b":")?;
-    show_number(out, told.number)?;
-    show_number(out, told.first)?;
-    show_number(out, told.second)?;
-    show_number(out, told.third)?;
-    show_number(out, told.fourth)?;
-    out.write_all(b"\n")
-}
-
-fn show_number<W: Write>(out: &mut W, number: u32) -> io::Result<()> {
-    write!(out, " {number}")
+fn show<W: Write>(out: &mut W, name: &str, answer: Answer) -> io::Result<()> {
+    let told = Details::from(answer);
+    writeln!(out, "{name}: {told}")
 }

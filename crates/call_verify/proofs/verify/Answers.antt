@@ -1,18 +1,14 @@
 -- `call_verify::verify` meets its contract. Assumes nothing.
-use mathlib.Core.Path.{refl}
-use Rattle.line_chains.proofs.Linking.{linked_all}
+use Rattle.std.proofs.Common.{◌∙◌}
+use Rattle.plan_refusal.proofs.Firsts.{handed_on}
 use Rattle.call_verify.proofs.Behind.{clash_found, lines_found}
-use Rattle.std.proofs.lemmas.Bool.{not_from_true, not_from_false}
 use Rattle.call_verify.proofs.verify.Goals as goal
 
-pub returns-then-not-is_nothing : goal.returns-then-not-is_nothing
-returns-then-not-is_nothing c = clash_found _ _ _ _ c.first_clash-r.result c.first_clash-r.ensures c.is_nothing.ensures (not_from_false _ c.if-not-is_nothing.true)
+pub returns-in_err-first_clash : goal.returns-in_err-first_clash
+returns-in_err-first_clash c = λ q assigned f. handed_on _ _ c.from_residual.ensures.1 ∙ clash_found _ _ _ _ _ c.first_clash.ensures _ c.in_err-first_clash.was q assigned f
 
-pub slice_bounds-link-end : goal.slice_bounds-link-end
-slice_bounds-link-end c = refl
-
-pub check-requires : goal.check-requires
-check-requires c = record { linked = linked_all c.requires.tabled c.link.ensures; usable = c.requires.slotted.plan }
+pub invariant_of-table : goal.invariant_of-table
+invariant_of-table c = record { tabled = c.requires; chained = c.link.ensures }
 
 pub returns : goal.returns
-returns c = lines_found _ _ _ _ c.first_clash-r.result c.first_clash-r.ensures c.is_nothing.ensures _ c.check.result (not_from_true _ c.if-not-is_nothing.false) c.link.ensures c.check.ensures
+returns c = lines_found _ _ _ _ _ c.first_clash.ensures _ c.in_ok-first_clash.was c.check.ensures

@@ -1,7 +1,11 @@
 -- `clash_held::clashes_by_sets` meets its contract. Assumes nothing.
-use mathlib.Core.Path.{sym}
+use mathlib.Core.Path.{sym, ◌∙◌}
+use Rattle.plan.specs.Bookings.{claim_of}
 use Rattle.clash_held.proofs.Sets.{apart_never}
 use Rattle.clash_held.proofs.clashes_by_sets.Goals as goal
 
-pub returns-then-apart : goal.returns-then-apart
-returns-then-apart c = let pre = c.requires in sym (apart_never _ _ _ _ pre.in_bounds.0 pre.in_bounds.1 pre.collected pre.collected_2 (c.apart.ensures c.if-apart.true))
+pub returns-else-not-is_apart : goal.returns-else-not-is_apart
+returns-else-not-is_apart c =
+    let a = c.args.a.now in
+    let b = c.args.b.now in
+    rw c.if-not-is_apart.false (sym (apart_never (claim_of a) (claim_of b) a.circuit.now.cycle.fits.low b.circuit.now.cycle.fits.low c.requires.left c.requires.right (sym c.is_apart.ensures ∙ c.if-not-is_apart.false)))

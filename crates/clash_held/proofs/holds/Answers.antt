@@ -1,20 +1,20 @@
--- `clash_held::holds` meets its contract. The loop's invariant: none of the uses passed holds. Assumes nothing.
-use mathlib.Core.Path.{sym, ◌∙◌}
-use Rattle.clash_held.proofs.Held.{held_none, held_other, held_miss, holds_true, holds_false}
-use native.Mathlib.Omega.{arith}
+-- `clash_held::holds` meets its contract. Assumes nothing.
+use Rattle.std.proofs.Common.{◌∙◌, refl, eqb, rules, tests}
+use Rattle.std.proofs.lemmas.Iterator.{YieldsList-from_slice}
+use Rattle.std.proofs.lemmas.Iterator.Search.{any_from_yields_List}
+use Rattle.model.specs.Tests.{◌and◌}
+use Rattle.num_mask.specs.Bits.{bit}
+use Rattle.num_mask.proofs.Going.{list_any-is}
+use Rattle.num_cyclic.specs.Ahead.{ahead}
+use Rattle.plan.specs.Bookings.{claim_of}
+use Rattle.clash_held.specs.Held.{held_by}
+use Rattle.clash_held.proofs.Held.{held_is}
 use Rattle.clash_held.proofs.holds.Goals as goal
 
-pub loop-k-init : goal.loop-k-init
-loop-k-init c = (omega arith, held_none)
-
-pub loop-k-preserved-then-what-w : goal.loop-k-preserved-then-what-w
-loop-k-preserved-then-what-w c = (omega arith, held_other c.loop-k.invariant.1 c.what.ensures c.if-what-w.true)
-
-pub returns-then-has : goal.returns-then-has
-returns-then-has c = holds_true _ _ _ _ _ c.requires.in_bounds c.requires.c_bound c.cycle-d.ensures (omega arith) c.what.ensures c.if-what-w.false c.after.ensures c.difference-a.ensures.is (sym c.has.ensures ∙ c.if-has.true)
-
-pub loop-k-preserved : goal.loop-k-preserved
-loop-k-preserved c = (omega arith, held_miss c.loop-k.invariant.1 c.what.ensures c.if-what-w.false c.after.ensures c.difference-a.ensures.is (sym c.has.ensures ∙ c.if-has.false))
-
 pub returns : goal.returns
-returns c = holds_false _ _ _ _ _ c.requires.in_bounds c.requires.c_bound c.cycle-d.ensures c.loop-k.invariant.1 (omega arith) c.uses-count.ensures
+unfolding held_by ◌and◌
+returns c =
+    any_from_yields_List (λ u. eqb u.what c.args.w and bit c.args.b.now.offsets (ahead c.args.b.now.circuit.now.cycle.slots c.args.t u.after)) _ _ _
+    c.any.ensures.ran (YieldsList-from_slice c.args.b.now.circuit.now.uses.items cc) (λ x b q k. search (rules, tests))
+    ∙ list_any-is _ _
+    ∙ held_is (claim_of c.args.b.now) c.args.b.now.offsets c.args.t c.args.w c.args.b.now.circuit.now.cycle.fits c.args.b.now.low refl

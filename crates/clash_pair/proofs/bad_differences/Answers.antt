@@ -1,16 +1,14 @@
 -- `clash_pair::bad_differences` meets its contract. The loop's invariant: the differences of the uses passed are marked. Assumes nothing.
-use Rattle.plan.specs.Plan.{circuit_in}
+use mathlib.Core.Path.{◌∙◌}
+use Rattle.std.proofs.lemmas.List.{take_all}
 use Rattle.clash_pair.proofs.Marking.{all_none, all_more, all_done}
-use native.Mathlib.Omega.{arith}
 use Rattle.clash_pair.proofs.bad_differences.Goals as goal
 
-pub loop-k-init : goal.loop-k-init
-loop-k-init c = (omega arith, all_none)
+pub loop-u-init : goal.loop-u-init
+loop-u-init c = all_none
 
-pub loop-k-preserved : goal.loop-k-preserved
-unfolding circuit_in
-loop-k-preserved c = (omega arith, all_more c.loop-k.invariant.1 c.mark_use-acc.ensures.marks)
+pub loop-u-preserved : goal.loop-u-preserved
+loop-u-preserved c = all_more _ _ _ c.loop-u-test.true c.loop-u.invariant c.mark_use-acc.ensures
 
 pub returns : goal.returns
-unfolding circuit_in
-returns c = all_done c.loop-k.invariant.1 (omega arith)
+returns c = all_done _ _ _ (rw (take_all _ _ c.loop-u-test.false ∙ c.deref-u-items.ensures.0) at c.loop-u.invariant)

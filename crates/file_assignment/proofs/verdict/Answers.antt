@@ -1,23 +1,27 @@
 -- `file_assignment::verdict` meets its contract. Assumes nothing.
-use native.Mathlib.Omega.{arith}
-use Rattle.file_assignment.proofs.Laws.{surplus, head_fault, offset_fault_lem, offsets_fine}
-use Rattle.std.proofs.lemmas.Bool.{not_from_true, not_from_false}
+use Rattle.std.proofs.Common.{rules, ◌<◌, arith, length}
+use Rattle.file_parts.specs.Records.{asked, recorded}
+use Rattle.model.specs.Reading.{bad_offset}
+use Rattle.file_records.proofs.Laws.{decided}
+use Rattle.file_records.proofs.Searching.{some_in_range}
+use Rattle.file_assignment.proofs.Laws.{by_parts}
 use Rattle.file_assignment.proofs.verdict.Goals as goal
 
-pub returns-then-n-k : goal.returns-then-n-k
-returns-then-n-k c = surplus _ _ _ c.requires.starts _ _ _ (omega arith)
+pub returns-in_err-offsets_head : goal.returns-in_err-offsets_head
+returns-in_err-offsets_head c =
+    let low : c.args.k < length (asked c.args.request.now).circuits = omega arith in
+    rw (by_parts (asked c.args.request.now) c.args.offsets.now.file.now c.args.k c.args.offsets.now.start low (recorded c.circuit-circuit.result) c.circuit-circuit.ensures.circuit, ← c.offsets_head.ensures) (search rules)
 
-pub cycle_of-cycle-requires : goal.cycle_of-cycle-requires
-cycle_of-cycle-requires c = c.requires.starts.each _ (omega arith)
-
-pub demand_of-demand-requires : goal.demand_of-demand-requires
-demand_of-demand-requires c = c.requires.starts.each _ (omega arith)
-
-pub returns-then-not-is_fine : goal.returns-then-not-is_fine
-returns-then-not-is_fine c = head_fault _ _ _ c.requires.starts _ _ _ c.if-n-k.false _ _ _ _ c.word-len.ensures c.demand_of-demand.ensures c.offsets_head-head.ensures c.is_fine.ensures (not_from_false _ c.if-not-is_fine.true)
-
-pub returns-then-i-len : goal.returns-then-i-len
-returns-then-i-len c = offset_fault_lem _ _ _ c.requires.starts _ _ _ c.if-n-k.false _ _ _ _ c.word-len.ensures c.demand_of-demand.ensures c.offsets_head-head.ensures c.is_fine.ensures (not_from_true _ c.if-not-is_fine.false) _ _ c.cycle_of-cycle.ensures c.first_bad_offset-i.ensures c.if-i-len.true
+pub returns-then-any : goal.returns-then-any
+returns-then-any c =
+    let low : c.args.k < length (asked c.args.request.now).circuits = omega arith in
+    let e = some_in_range c.length.result (bad_offset c.args.offsets.now.file.now c.args.offsets.now.start c.cycle-cycle.result.slots) _ _ _ c.any.ensures.ran (λ x b q k. search rules) in
+    rw (by_parts (asked c.args.request.now) c.args.offsets.now.file.now c.args.k c.args.offsets.now.start low (recorded c.circuit-circuit.result) c.circuit-circuit.ensures.circuit)
+    (decided _ _ _ _ _ c.offsets_head.ensures c.in_ok-offsets_head.was (simp (← c.cycle-cycle.ensures, ← c.length.ensures.is, ← e, c.if-any.true)))
 
 pub returns : goal.returns
-returns c = offsets_fine _ _ _ c.requires.starts _ _ _ c.if-n-k.false _ _ _ _ c.word-len.ensures c.demand_of-demand.ensures c.offsets_head-head.ensures c.is_fine.ensures (not_from_true _ c.if-not-is_fine.false) _ _ c.cycle_of-cycle.ensures c.first_bad_offset-i.ensures c.if-i-len.false
+returns c =
+    let low : c.args.k < length (asked c.args.request.now).circuits = omega arith in
+    let e = some_in_range c.length.result (bad_offset c.args.offsets.now.file.now c.args.offsets.now.start c.cycle-cycle.result.slots) _ _ _ c.any.ensures.ran (λ x b q k. search rules) in
+    rw (by_parts (asked c.args.request.now) c.args.offsets.now.file.now c.args.k c.args.offsets.now.start low (recorded c.circuit-circuit.result) c.circuit-circuit.ensures.circuit)
+    (decided _ _ _ _ _ c.offsets_head.ensures c.in_ok-offsets_head.was (simp (← c.cycle-cycle.ensures, ← c.length.ensures.is, ← e, c.if-any.false)))

@@ -1,15 +1,13 @@
 -- `file_network::bad_link` meets its contract. Assumes nothing.
-use Rattle.file_network.proofs.Laws.{bad_from, bad_to, bad_loop, bad_pair}
+use Rattle.std.proofs.Common.{rules, ◌∙◌, arith, tests}
+use Rattle.std.proofs.lemmas.Grind.{common_steps}
+use Rattle.model.specs.Reading.{same_pair, bad_link}
+use Rattle.model.specs.Tests.{◌and◌}
+use Rattle.file_records.proofs.Laws as laws
+use Rattle.file_records.proofs.Searching.{some_in_range}
 use Rattle.file_network.proofs.bad_link.Goals as goal
 
-pub returns-then-routers-from : goal.returns-then-routers-from
-returns-then-routers-from c = search bad_from
-
-pub returns-then-routers-to : goal.returns-then-routers-to
-returns-then-routers-to c = search bad_to
-
-pub returns-then-from-to : goal.returns-then-from-to
-returns-then-from-to c = search bad_loop
-
-pub returns : goal.returns
-returns c = search bad_pair
+pub returns-else-of_b : goal.returns-else-of_b
+unfolding bad_link same_pair ◌and◌
+returns-else-of_b c =
+    some_in_range c.args.b (same_pair c.args.s.now c.args.b) _ _ _ c.any.ensures.ran (λ x b q k. search (rules, tests)) ∙ grind (arith, common_steps, laws.tests)

@@ -1,12 +1,22 @@
 -- `file_network::verdict` meets its contract. Assumes nothing.
-use Rattle.file_network.proofs.Laws.{network_numbers, network_link, network_fine}
+use Rattle.std.proofs.Common.{rules}
+use Rattle.model.specs.Reading.{bad_link, network_verdict}
+use Rattle.file_records.proofs.Laws.{decided}
+use Rattle.file_records.proofs.Searching.{some_in_range}
 use Rattle.file_network.proofs.verdict.Goals as goal
 
-pub returns-then-not-is_fine : goal.returns-then-not-is_fine
-returns-then-not-is_fine c = search network_numbers
+pub returns-in_err-network_head : goal.returns-in_err-network_head
+unfolding network_verdict
+returns-in_err-network_head c = search rules
 
-pub returns-then-b-buffers : goal.returns-then-b-buffers
-returns-then-b-buffers c = search network_link
+pub returns-then-any : goal.returns-then-any
+unfolding network_verdict
+returns-then-any c =
+    let e = some_in_range c.word.result (bad_link c.args.s.now c.word-routers.result) _ _ _ c.any.ensures.ran (λ x b q k. search rules) in
+    decided _ _ _ _ _ c.network_head.ensures c.in_ok-network_head.was (simp (← c.word-routers.ensures.is, ← c.word.ensures.is, ← e, c.if-any.true))
 
 pub returns : goal.returns
-returns c = search network_fine
+unfolding network_verdict
+returns c =
+    let e = some_in_range c.word.result (bad_link c.args.s.now c.word-routers.result) _ _ _ c.any.ensures.ran (λ x b q k. search rules) in
+    decided _ _ _ _ _ c.network_head.ensures c.in_ok-network_head.was (simp (← c.word-routers.ensures.is, ← c.word.ensures.is, ← e, c.if-any.false))

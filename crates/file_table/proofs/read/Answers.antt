@@ -1,23 +1,18 @@
--- `file_table::read` meets its contract. The loop is the walk, turn by turn. Assumes nothing.
-use native.Mathlib.Omega.{arith}
-use Rattle.file_records.proofs.Walking.{going_start, going_on, count_here, less_here}
-use Rattle.file_table.proofs.Walking.{bounded, end_here, refused_here}
+-- `file_table::read` meets its contract. Assumes nothing.
+use Rattle.std.proofs.Common.{rules, arith, length}
+use Rattle.model.specs.Sizes.{lines_most}
+use Rattle.model.specs.Reading.{request, table_step, table_walk}
+use Rattle.file_records.proofs.Bounds.{walkable}
+use Rattle.file_table.proofs.Walking.{bounded}
 use Rattle.file_table.proofs.read.Goals as goal
 
-pub loop-next-init : goal.loop-next-init
-loop-next-init c = going_start _ _ _ 0 (bounded _ _) (omega arith)
+pub count-requires : goal.count-requires
+count-requires c =
+    walkable _ _ 0 lines_most (length c.args.s.now) (table_step (request c.args.req.now).network c.args.s.now) (bounded _ _)
+    (omega arith)
+    (λ n p h. search rules)
+    (record { is = λ n p r k. search rules })
 
-pub overflow_add-n : goal.overflow_add-n
-overflow_add-n c = search count_here
-
-pub loop-next-smaller : goal.loop-next-smaller
-loop-next-smaller c = search less_here
-
-pub loop-next-preserved : goal.loop-next-preserved
-loop-next-preserved c = search going_on
-
-pub returns-in-End : goal.returns-in-End
-returns-in-End c = search end_here
-
-pub returns-in-Refused : goal.returns-in-Refused
-returns-in-Refused c = search refused_here
+pub returns : goal.returns
+unfolding table_walk
+returns c = c.count.ensures (table_step (request c.args.req.now).network c.args.s.now) (record { is = λ n p r k. search rules })

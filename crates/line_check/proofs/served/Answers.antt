@@ -1,22 +1,14 @@
--- `line_check::served` meets its contract. The loop's invariant: at the hops before k no series of the offsets has a fault. Assumes nothing.
-use borrow.Author.Tests.{not-false}
-use Rattle.model.proofs.Tests.{eq→T}
-use Rattle.line_check.proofs.Firsts.{served_none, served_more, served_all}
-use native.Mathlib.Omega.{arith}
-use Rattle.std.proofs.lemmas.Bool.{not_from_true}
+-- `line_check::served` meets its contract. Assumes nothing.
+use Rattle.std.proofs.Common.{rules, tests}
+use Rattle.std.proofs.lemmas.Iterator.{YieldsList-from_slice, cases_from_all}
+use Rattle.std.proofs.lemmas.List.Elements.{All-from_all_within}
+use Rattle.model.specs.declared.Send.{Send}
+use Rattle.line_served.specs.Serving.{AllServed}
+use Rattle.line_check.proofs.Firsts.{served_all}
 use Rattle.line_check.proofs.served.Goals as goal
 
-pub loop-k-init : goal.loop-k-init
-loop-k-init c = (omega arith, served_none _ _ _ _ _)
-
-pub all_served-requires : goal.all_served-requires
-all_served-requires c = let pre = c.requires in record { linked = pre.linked; in_bounds = pre.in_bounds; j_bound = omega arith }
-
-pub returns-then-not-all_served : goal.returns-then-not-all_served
-returns-then-not-all_served c = λ e. absurd (eq→T e)
-
-pub loop-k-preserved : goal.loop-k-preserved
-loop-k-preserved c = (omega arith, served_more _ _ _ _ _ _ c.loop-k.invariant.1 (c.all_served.ensures (not-false _ (not_from_true _ c.if-not-all_served.false))))
-
 pub returns : goal.returns
-returns c = λ e. served_all _ _ _ _ _ _ _ c.sends-hops.ensures (omega arith) c.loop-k.invariant.1
+returns c =
+    let P = λ (s : Send). AllServed c.args.table.now.bytes.now c.args.table.now.lines c.args.booking.now.circuit.now.cycle.slots s c.args.booking.now.offsets in
+    let cases = cases_from_all _ _ c.all.result P (λ s. Unit {0}) c.all.ensures.ran (YieldsList-from_slice c.args.booking.now.circuit.now.sends.items cc) (λ x q k. search (rules, tests)) (λ x q k. tt) in
+    λ e n. served_all _ _ _ _ n (All-from_all_within P _ (rw e at cases))

@@ -1,11 +1,13 @@
--- `line_maker::put_circuit` meets its contract. Each turn lays in the lines of the lowest offset that is left. Assumes nothing.
-use lib.ListN.{get_or}
+-- `line_maker::put_circuit` meets its contract. Each turn lays in the lines of one offset. Assumes nothing.
+use Rattle.std.proofs.Common.{map}
+use Rattle.model.specs.Tests.{joined}
+use Rattle.num_mask.specs.Bits.{offsets}
+use Rattle.plan.specs.Plan.{shown}
 use Rattle.file_writer.proofs.Rest.{Rest}
-use Rattle.line_maker.specs.Files.{circuit_bytes}
+use Rattle.line_maker.specs.Files.{offset_bytes, circuit_bytes}
 use Rattle.line_maker.proofs.put_circuit.Given as goal
 
-abbrev pub invariant-loop-left : goal.invariant-loop-left
-invariant-loop-left l = Rest l.initial.out l.at (circuit_bytes l.p l.c (get_or l.m l.c 0)) l.out l.next (circuit_bytes l.p l.c l.left)
-
-abbrev pub decreases-loop-left : goal.decreases-loop-left
-decreases-loop-left l = l.left
+abbrev pub invariant-loop-offset : goal.invariant-loop-offset
+invariant-loop-offset l =
+    Rest l.initial.out l.at (circuit_bytes (shown l.b.circuit.now) l.b.offsets) l.out l.next
+    (joined (map (offset_bytes (shown l.b.circuit.now)) (offsets l.offset-iterator.left)))

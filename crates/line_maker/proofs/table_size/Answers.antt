@@ -1,49 +1,20 @@
 -- `line_maker::table_size` meets its contract. The loop sums over the circuits so far, and the sum stays small. Assumes nothing.
-use mathlib.Core.Path.{refl}
-use Rattle.model.specs.Tests.{up_to, sum}
-use Rattle.line_maker.proofs.Sizes.{circuit_few, total_more, total_end}
-use native.Mathlib.Omega.{arith}
+use Rattle.std.proofs.Common.{arith, ap, ap₂, ◌∙◌}
+use Rattle.line_maker.specs.Files.{lines_size}
+use Rattle.line_maker.proofs.Sizes.{size_before, size_before-none, size_before-more, size_before-all}
 use Rattle.line_maker.proofs.table_size.Goals as goal
 
-pub circuits-n-requires : goal.circuits-n-requires
-circuits-n-requires c = omega arith
-
 pub loop-c-init : goal.loop-c-init
-unfolding sum up_to
-loop-c-init c = (omega arith, refl, omega arith)
-
-pub offset_bounds-m-c : goal.offset_bounds-m-c
-offset_bounds-m-c c = omega arith
-
-pub bounds-m-c : goal.bounds-m-c
-bounds-m-c c = omega arith
-
-pub size-slots-requires : goal.size-slots-requires
-size-slots-requires c = omega arith
-
-pub overflow_cast-slots : goal.overflow_cast-slots
-overflow_cast-slots c = omega arith
-
-pub sends-requires : goal.sends-requires
-sends-requires c = omega arith
-
-pub overflow_mul-total : goal.overflow_mul-total
-overflow_mul-total c = omega (arith, circuit_few (c.requires.fit c.loop-c.c (omega arith)) _ c.size-slots.ensures c.sends.ensures)
-
-pub overflow_mul-total-in-loop-c : goal.overflow_mul-total-in-loop-c
-overflow_mul-total-in-loop-c c = omega (arith, circuit_few (c.requires.fit c.loop-c.c (omega arith)) _ c.size-slots.ensures c.sends.ensures)
-
-pub overflow_add-total : goal.overflow_add-total
-overflow_add-total c = omega (arith, circuit_few (c.requires.fit c.loop-c.c (omega arith)) _ c.size-slots.ensures c.sends.ensures)
-
-pub overflow_step-c : goal.overflow_step-c
-overflow_step-c c = omega arith
-
-pub loop-c-smaller : goal.loop-c-smaller
-loop-c-smaller c = omega arith
+loop-c-init c = (omega (arith, size_before-none c.args.b.now.plan.now c.args.b.now.masks.now), omega arith)
 
 pub loop-c-preserved : goal.loop-c-preserved
-loop-c-preserved c = let few = circuit_few (c.requires.fit c.loop-c.c (omega arith)) _ c.size-slots.ensures c.sends.ensures in (omega arith, total_more c.args.p.now c.args.m.now _ c.loop-c.invariant.1 c.size-slots.ensures c.sends.ensures, omega arith)
+loop-c-preserved c = (
+  omega (arith, c.loop-c.invariant.0, c.lines_size-total.ensures.is ∙ ap₂ lines_size c.of.ensures.circuit c.of.ensures.offsets, size_before-more c.args.b.now.plan.now c.args.b.now.masks.now c.loop-c.c),
+  omega arith,
+)
 
-pub returns : goal.returns
-returns c = total_end c.args.p.now c.args.m.now (omega arith) c.circuits-n.ensures c.loop-c.invariant.1
+pub returns-clause-is : goal.returns-clause-is
+returns-clause-is c =
+    let p = c.args.b.now.plan.now in
+    let m = c.args.b.now.masks.now in
+    rw (size_before-all p m) (c.loop-c.invariant.0 ∙ ap (size_before p m) (omega arith))

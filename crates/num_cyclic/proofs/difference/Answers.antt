@@ -6,10 +6,10 @@ use Rattle.num_cyclic.proofs.Ahead.{ahead_low}
 use Rattle.num_cyclic.proofs.difference.Goals as goal
 
 pub overflow_sub-result : goal.overflow_sub-result
-overflow_sub-result c = omega (arith, mod-lt c.args.a c.requires.low, mod-lt c.args.b c.requires.low)
+overflow_sub-result c = omega (arith, mod-lt c.args.a c.args.g.fits.low, mod-lt c.args.b c.args.g.fits.low)
 
 pub overflow_add-result : goal.overflow_add-result
-overflow_add-result c = omega (arith, mod-lt c.args.a c.requires.low, mod-lt c.args.b c.requires.low)
+overflow_add-result c = omega (arith, mod-lt c.args.a c.args.g.fits.low, mod-lt c.args.b c.args.g.fits.low)
 
 pub returns : goal.returns
-returns c = record { is = refl; low = ahead_low c.args.g c.args.a c.args.b c.requires.low }
+returns c = record { is = refl; low = ahead_low c.args.g.slots c.args.a c.args.b c.args.g.fits.low }

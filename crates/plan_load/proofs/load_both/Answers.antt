@@ -1,26 +1,31 @@
 -- `plan_load::load_both` meets its contract. Assumes nothing.
-use Rattle.plan_load.proofs.Loading.{request_fits, request_refused, starts_of, assignment_fits, assignment_refused, risings_here, both_loaded}
-use borrow.Author.Rules.{rules}
-use Rattle.std.proofs.lemmas.Bool.{not_from_true, not_from_false}
+use mathlib.Core.Path.{◌≡◌, sym, ◌∙◌}
+use Rattle.std.specs.declared.result.Result.TheVariants.{Ok}
+use Rattle.std.proofs.Common.{rules}
+use mathlib.Core.Option.{some}
+use Rattle.model.specs.Reading.{request}
+use Rattle.model.specs.Jobs.{assignment_fault}
+use Rattle.plan_load.specs.Loaded.{ByteFits}
+use Rattle.plan_load.proofs.Loading.{assignment_fits, request_refused, assignment_refused, risings_here, both_loaded}
 use Rattle.plan_load.proofs.load_both.Goals as goal
 
-pub damaged-refusal-requires : goal.damaged-refusal-requires
-damaged-refusal-requires c = search request_fits
+pub returns-in_err-starts : goal.returns-in_err-starts
+returns-in_err-starts c = request_refused _ _ _ _ _ c.in_err-starts.field-0.0 c.from_residual.ensures.1 c.in_err-starts.ensures
 
-pub returns-then-not-is_nothing : goal.returns-then-not-is_nothing
-returns-then-not-is_nothing c = search request_refused
+pub map_err-requires : goal.map_err-requires
+map_err-requires c = λ d e. let fits : ByteFits d = assignment_fits _ _ d (sym e ∙ c.read-records.ensures) in search rules
 
-pub read-booked-requires : goal.read-booked-requires
-read-booked-requires c = search starts_of
-
-pub damaged-damage-requires : goal.damaged-damage-requires
-damaged-damage-requires c = search assignment_fits
-
-pub returns-then-not-is_nothing-2 : goal.returns-then-not-is_nothing-2
-returns-then-not-is_nothing-2 c = assignment_refused _ _ _ c.open-places.ensures c.damaged-refusal.result c.damaged-refusal.ensures _ c.is_nothing.ensures (not_from_true _ c.if-not-is_nothing.false) _ _ c.read-booked.ensures c.damaged-damage.result c.damaged-damage.ensures _ c.is_nothing-2.ensures _ (not_from_false _ c.if-not-is_nothing-2.true)
+pub returns-in_err-booked : goal.returns-in_err-booked
+returns-in_err-booked c =
+    let told : assignment_fault (request c.args.request.now) c.args.assignment.now ≡ some c.in_err-booked.field-0.0 = search rules in
+    assignment_refused _ _ _ _ c.in_ok-starts.ensures.0.fine _ c.in_err-booked.field-0.0 c.from_residual-in_err-booked.ensures.1 told
 
 pub fill-requires : goal.fill-requires
-fill-requires c = record { risings = risings_here _ _ _ c.open-places.ensures c.damaged-refusal.result c.damaged-refusal.ensures _ c.is_nothing.ensures (not_from_true _ c.if-not-is_nothing.false) _ _ c.read-booked.ensures c.damaged-damage.result c.damaged-damage.ensures _ c.is_nothing-2.ensures (not_from_true _ c.if-not-is_nothing-2.false); masks_len = search rules }
+fill-requires c =
+    let read : c.read-records.result ≡ Ok c.in_ok-booked.booked = search rules in
+    risings_here _ _ c.open.new.plan c.args.masks.now c.in_ok-starts.ensures.0.fine _ (sym read ∙ c.read-records.ensures)
 
 pub returns : goal.returns
-returns c = both_loaded _ _ _ c.open-places.ensures c.damaged-refusal.result c.damaged-refusal.ensures _ c.is_nothing.ensures (not_from_true _ c.if-not-is_nothing.false) _ _ c.read-booked.ensures c.damaged-damage.result c.damaged-damage.ensures _ c.is_nothing-2.ensures (not_from_true _ c.if-not-is_nothing-2.false) _ c.fill.ensures
+returns c =
+    let read : c.read-records.result ≡ Ok c.in_ok-booked.booked = search rules in
+    both_loaded _ _ _ _ c.in_ok-starts.ensures.0.fine _ (sym read ∙ c.read-records.ensures) c.in_ok-starts.ensures.1 c.fill.ensures

@@ -1,40 +1,10 @@
 -- `plan_masks::fill` meets its contract: the masks of the circuits before c stand. Assumes nothing.
-use Rattle.plan_masks.proofs.Masking.{masks_none, start_low, rising_here, masks_more, masks_all}
 use native.Mathlib.Omega.{arith}
+use Rattle.plan_masks.proofs.Taking.{rising_here, masks_more}
 use Rattle.plan_masks.proofs.fill.Goals as goal
 
-pub loop-c-init : goal.loop-c-init
-loop-c-init c = (omega arith, search masks_none)
-
-pub offset_bounds-at-c : goal.offset_bounds-at-c
-offset_bounds-at-c c = omega arith
-
-pub bounds-at-c : goal.bounds-at-c
-bounds-at-c c = omega arith
-
-pub word-count-requires : goal.word-count-requires
-word-count-requires c = omega (arith, start_low _ _ _ c.requires.risings _ c.loop-c-test.true)
-
-pub mask_at-requires : goal.mask_at-requires
-mask_at-requires c = search rising_here
-
-pub offset_bounds-masks-c : goal.offset_bounds-masks-c
-offset_bounds-masks-c c = omega arith
-
-pub bounds-masks-c : goal.bounds-masks-c
-bounds-masks-c c = omega arith
-
-pub overflow_step-c : goal.overflow_step-c
-overflow_step-c c = omega arith
-
-pub loop-c-smaller : goal.loop-c-smaller
-loop-c-smaller c = omega arith
+pub mask_of-requires : goal.mask_of-requires
+mask_of-requires c = rw c.deref-start-items.ensures.0 (rising_here _ _ c.loop-c.c _ _ c.requires (rw c.deref-start-items.ensures.0 at c.loop-c-test.true) (rw c.deref-start-items.ensures.0 at c.word-count.ensures) (omega arith))
 
 pub loop-c-preserved : goal.loop-c-preserved
-loop-c-preserved c = (omega arith, search masks_more)
-
-pub shape_of-masks : goal.shape_of-masks
-shape_of-masks c = omega arith
-
-pub returns : goal.returns
-returns c = search masks_all
+loop-c-preserved c = masks_more _ _ c.loop-c.c _ _ c.requires (rw c.deref-start-items.ensures.0 at c.loop-c-test.true) (rw c.deref-start-items.ensures.0 at c.word-count.ensures) (omega arith) _ _ (omega arith) c.loop-c.invariant (rw c.deref-start-items.ensures.0 at c.mask_of.ensures) (omega (arith, c.mask_of.type_inv))

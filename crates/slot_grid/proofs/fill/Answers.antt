@@ -1,20 +1,21 @@
--- `slot_grid::fill` meets its contract. The loop's invariant: the entries of the circuits passed are filled in. Assumes nothing.
-use mathlib.Core.Path.{refl, ◌∙◌}
-use Rattle.slot_grid.proofs.Filling.{grid_none, grid_more, grid_all}
-use native.Mathlib.Omega.{arith}
+-- `slot_grid::fill` meets its contract. Assumes nothing.
+use Rattle.std.proofs.Common.{[], map, take, length, ap, arith, ◌∙◌}
+use Rattle.std.proofs.Math.ListN.{length-set}
+use Rattle.plan.specs.Plan.{shown, circuit_in}
+use Rattle.plan.proofs.Laws.{circuit_at}
+use Rattle.slot_grid.specs.Table.{RowsFilled}
+use Rattle.slot_grid.proofs.Filling.{set_more, grid_filled}
 use Rattle.slot_grid.proofs.fill.Goals as goal
 
-pub loop-c-init : goal.loop-c-init
-loop-c-init c = (omega arith, refl, grid_none)
-
-pub fill_circuit-requires : goal.fill_circuit-requires
-fill_circuit-requires c = record { usable = (c.requires.usable, omega arith); grid_len = c.loop-c.invariant.1 ∙ c.requires.grid_len }
-
 pub loop-c-preserved : goal.loop-c-preserved
-loop-c-preserved c = let done = c.loop-c.invariant in let filled = c.fill_circuit.ensures in (omega arith, filled.long ∙ done.1, grid_more c.requires.usable (omega arith) done.2 filled)
-
-pub shape_of-grid : goal.shape_of-grid
-shape_of-grid c = c.loop-c.invariant.1
+loop-c-preserved c =
+    let p = c.args.p.now in
+    let at = c.loop-c in
+    let i = c.own-item in (
+      length-set at.grid at.c _ ∙ at.invariant.0,
+      set_more (λ k. RowsFilled (circuit_in p k) (map shown (take k p.items))) at.grid at.c _ [] (omega arith) at.invariant.1
+          (rw (circuit_at p.items at.c i.result (rw c.deref-own-items.ensures.0 at c.loop-c-test.true) (rw c.deref-own-items.ensures.0 at i.is), c.deref.ensures.0) at c.fill_rows.ensures),
+    )
 
 pub returns : goal.returns
-returns c = grid_all c.loop-c.invariant.2 (omega arith) c.circuits-n.ensures
+returns c = grid_filled c.args.p.now c.loop-c.grid (λ k h. c.loop-c.invariant.1 k (omega (arith, ap length c.deref-own-items.ensures.0)))

@@ -1,9 +1,0 @@
--- `file_parts::cycle_of` meets its contract. Assumes nothing.
-use Rattle.file_parts.proofs.Parts.{start_fits, cycle_here}
-use Rattle.file_parts.proofs.cycle_of.Goals as goal
-
-pub overflow_add-a : goal.overflow_add-a
-overflow_add-a c = search start_fits
-
-pub returns : goal.returns
-returns c = search cycle_here
