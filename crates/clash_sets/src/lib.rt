@@ -5,9 +5,9 @@ ghost use Rattle.std.specs.Prelude.{◌≡◌};
 ghost use Rattle.plan.specs.Plan.{circuits_in};
 ghost use Rattle.clash_sets.specs.Sets.{InSet, Grown, Collected, SetsOf, apart?};
 
-use arrayvec::ArrayVec;
 use model::{CIRCUITS_MOST, RESOURCES_MOST};
 use plan::{Circuit, Plan};
+use plan_list::{Blank, List};
 
 // A set of resources has a bit for each, in words.
 const WORD_BITS: usize = 32;
@@ -17,6 +17,19 @@ const SET_WORDS: usize = (RESOURCES_MOST + WORD_BITS - 1) / WORD_BITS;
 #[derive(Clone, Copy, Default)]
 pub struct Resources {
     pub words: [u32; SET_WORDS],
+}
+
+impl Blank for Resources {
+    ghost use Rattle.clash_sets.specs.declared.TheConstants.{SET_WORDS};
+    ghost use Rattle.std.specs.Prelude.{replicate};
+
+    ghost blank = { record { words = replicate SET_WORDS 0 } };
+
+    fn blank() -> Resources {
+        Resources {
+            words: [0; SET_WORDS],
+        }
+    }
 }
 
 impl Resources {
@@ -52,10 +65,10 @@ impl Resources {
 }
 
 // What each circuit uses.
-pub fn of_all(plan: &Plan) -> ArrayVec<Resources, CIRCUITS_MOST>
+pub fn of_all(plan: &Plan) -> List<Resources, CIRCUITS_MOST>
     ensures { SetsOf plan.now result.items (circuits_in plan.now) }
 {
-    let mut sets = ArrayVec::new();
+    let mut sets = List::new();
     for circuit in plan.iter() {
         sets.push(Resources::of(circuit));
     }

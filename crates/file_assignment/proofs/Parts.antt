@@ -8,12 +8,11 @@ use borrow.Author.Tests.{ltb-false}
 use lib.ListN.{length, get_or, length-map}
 use Rattle.std.specs.declared.result.Result.TheVariants.{Ok}
 use Rattle.arrayvec.specs.ArrayVec.{ArrayVec}
-use Rattle.model.specs.Sizes.{head_size}
+use Rattle.model.specs.Sizes.{head_size, assignment_file}
 use Rattle.model.specs.Bytes.{length_at}
 use Rattle.model.specs.Network.{Request}
 use Rattle.model.specs.Holding.{offsets_of}
 use Rattle.model.specs.Answers.{damage}
-use Rattle.model.specs.declared.File.TheVariants.{Assignment}
 use Rattle.model.specs.Reading.{faultless, have, Walked, complete, starts, offsets_verdict, assignment_walk, offsets_at, assignment}
 use Rattle.model.specs.Jobs.{assignment_fault}
 use Rattle.std.proofs.lemmas.List.{get_or-map}
@@ -35,7 +34,7 @@ module _ (q : Request) (s : List ℕ) where
     walked = places-whole (assignment_walk q s) places e
 
     pub file_whole : assignment_fault q s ≡ none
-    file_whole = ap (damage Assignment) walked
+    file_whole = ap (damage assignment_file) walked
 
     pub places_many : length places.items ≡ length q.circuits
     places_many = ap (λ (w : Walked). length (starts w)) (sym walked) ∙ starts_many file_whole

@@ -67,7 +67,7 @@ fn step_at(request: &Request, s: &[u8], k: usize, p: usize) -> Result<Option<usi
 {
     let offsets = Record { file: s, start: p };
     let early = k < request.len();
-    offsets.step(Kind::Offsets, early, verdict(request, &offsets, k))
+    offsets.step(Kind::Offsets.into(), early, verdict(request, &offsets, k))
 }
 
 // Reads the assignment of a request.

@@ -52,7 +52,7 @@ fn bad_link(s: &[u8], routers: usize, b: usize) -> bool
     routers <= usize::from(of_b.from)
         || routers <= usize::from(of_b.to)
         || of_b.from == of_b.to
-        || (0..b).any(|a| link(s, a) == of_b)
+        || (0..b).any(|a| link(s, a).from == of_b.from && link(s, a).to == of_b.to)
 }
 
 // The verdict on the network record, which starts at byte 0.

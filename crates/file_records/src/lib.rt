@@ -4,7 +4,6 @@
 
 ghost use Rattle.std.specs.Prelude.{◌≡◌, ℕ, suc, ◌+◌, ◌≤◌, ◌<◌, ◌^◌, [], length};
 ghost use Rattle.model.specs.Sizes.{circuits_most, word_end};
-ghost use Rattle.model.specs.Bytes.{kind_number};
 ghost use Rattle.model.specs.Reading.{link_at, line_at, path_place, have, Step, end_step, step_at, walk};
 ghost use Rattle.file_records.specs.Fields.{Byte, Word};
 ghost use Rattle.file_records.specs.Walks.{Walkable, Tells, Keepable, Walks, places_of, count_of};
@@ -98,15 +97,15 @@ impl<'a> Record<'a> {
         Ok(None)
     }
 
-    // What stands here: a record of this kind, on which the verdict is v, or the end record, or neither.
+    // What stands here: a record of the kind with this number, on which the verdict is v, or the end record, or neither.
     #[tactic(auto, using(crate::proofs::Laws::tests), unfolding(model::specs::Reading::step_at))]
     pub fn step(
         &self,
-        kind: Kind,
+        kind: usize,
         early: bool,
         v: Result<(), Fault>,
     ) -> Result<Option<usize>, Damage>
-        ensures { result ≡ step_at (kind_number kind) early v self.now.file.now self.now.start }
+        ensures { result ≡ step_at kind early v self.now.file.now self.now.start }
     {
         if self.room() < HEAD_SIZE {
             return Err(Fault::Cut.at(self.start));
@@ -115,7 +114,7 @@ impl<'a> Record<'a> {
         if found == usize::from(Kind::End) {
             return self.end_step(early);
         }
-        if found != usize::from(kind) {
+        if found != kind {
             return Err(Fault::Kind.at(self.start));
         }
         let start = self.start;

@@ -6,7 +6,7 @@ use Rattle.std.specs.declared.result.Result.TheVariants.{Ok}
 use Rattle.arrayvec.specs.ArrayVec.{ArrayVec}
 use Rattle.model.specs.Reading.{starts, request_walk}
 use Rattle.model.specs.Answers.{damage}
-use Rattle.model.specs.declared.File.TheVariants.{Request}
+use Rattle.model.specs.Sizes.{request_file}
 use Rattle.file_records.specs.Walks.{places_of}
 use Rattle.file_records.proofs.Endings.{places-whole}
 use Rattle.file_parts.specs.Parts.{Starts}
@@ -14,4 +14,4 @@ use Rattle.file_parts.specs.Parts.{Starts}
 pub starts-whole : (s : List ℕ) (places : ArrayVec ℕ) → Ok places ≡ places_of (request_walk s) → Starts s places.items
 starts-whole s places e =
     let whole = places-whole (request_walk s) places e in
-    record { fine = ap (damage Request) whole; are = sym (ap starts whole) }
+    record { fine = ap (damage request_file) whole; are = sym (ap starts whole) }

@@ -16,7 +16,11 @@ fn step_at(s: &[u8], n: usize, p: usize) -> Result<Option<usize>, Damage>
     ensures { result ≡ request_step s.now n p }
 {
     let circuit = Record { file: s, start: p };
-    circuit.step(Kind::Circuit, false, file_circuit::verdict(&circuit, n))
+    circuit.step(
+        Kind::Circuit.into(),
+        false,
+        file_circuit::verdict(&circuit, n),
+    )
 }
 
 // Reads the whole file.

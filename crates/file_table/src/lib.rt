@@ -74,7 +74,7 @@ fn step_at(req: &[u8], s: &[u8], n: usize, p: usize) -> Result<Option<usize>, Da
     ensures { result ≡ table_step (request req.now).network s.now n p }
 {
     let place = Record { file: s, start: p };
-    place.step(Kind::Line, false, verdict(req, &place, n))
+    place.step(Kind::Line.into(), false, verdict(req, &place, n))
 }
 
 // How many lines the table file s has, for the network of the request file.

@@ -11,11 +11,10 @@ use borrow.Author.Tests.{eq-eqb, ne_eqb, ltb-true}
 use lib.Dec.{eqb, eqb→eq, ltb}
 use lib.ListN.{length, get_or}
 use Rattle.arrayvec.specs.ArrayVec.{ArrayVec}
-use Rattle.model.specs.Sizes.{buffers_most, resources_most, local, inport_of}
+use Rattle.model.specs.Sizes.{buffers_most, resources_most, local, inport_of, table_file}
 use Rattle.model.specs.Divisor.{gcd}
 use Rattle.model.specs.Tests.{◌and◌, neg, least, given, ◌else◌, first}
 use Rattle.model.specs.Network.{Network, Request, Circuit, send, circuit_of, hops, hop, inport, to_router}
-use Rattle.model.specs.declared.File.TheVariants.{Table}
 use Rattle.model.specs.Holding.{offsets_of}
 use Rattle.model.specs.Lines.{Series, line_of, meets?, serves?, series, offset_of, one_line, part_line, two_line, series_fault, lines_fault}
 use Rattle.model.specs.declared.Line.{Line}
@@ -97,7 +96,7 @@ part_only false a w = refl
 
 -- ---- the lines of a table without a fault against a series
 
-module _ (q : Request) (sound : SoundRequest q) (t : List ℕ) (whole : damage Table (table_walk q.network t) ≡ none) where
+module _ (q : Request) (sound : SoundRequest q) (t : List ℕ) (whole : damage table_file (table_walk q.network t) ≡ none) where
   abbrev net : Network
   net = q.network
 

@@ -8,7 +8,7 @@ use Rattle.model.specs.Lines.{lines_fault}
 use Rattle.model.specs.Reading.{table_walk, table}
 use Rattle.model.specs.Answers.{damage}
 use Rattle.model.specs.declared.Answer.{Answer}
-use Rattle.model.specs.declared.File.TheVariants.{Table}
+use Rattle.model.specs.Sizes.{table_file}
 use Rattle.model.specs.declared.Send.{Send}
 use Rattle.num_mask.specs.Bits.{offsets}
 use Rattle.plan.specs.Plan.{CircuitPlan, circuit_in, Booked}
@@ -43,7 +43,7 @@ fault_in p m t lines c = circuit_fault (circuit_in p c) (get_or m c 0) t lines c
 -- the plan, the masks and the bytes stand for a request, its offsets and its lines
 pub record Facts (q : Request) (assigned : List (List ℕ)) (p : ArrayVec Circuit) (m t : List ℕ) (lines : ℕ) : Type 0 where
   pub booked : Booked q assigned p m
-  pub whole : damage Table (table_walk q.network t) ≡ none
+  pub whole : damage table_file (table_walk q.network t) ≡ none
   pub lined : lines ≡ length (table q.network t)
 
 -- r is the first fault of the lines

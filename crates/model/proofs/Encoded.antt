@@ -9,7 +9,7 @@ use native.Mathlib.Omega.{arith}
 use borrow.Author.Tests.{ltb-false}
 use lib.ListN.{length, get_or, drop, drop_of_length-le}
 use Rattle.std.specs.declared.result.Result.TheVariants.{Ok, Err}
-use Rattle.model.specs.Sizes.{head_size, counts_size, link_size, hop_size, line_size, network_kind, circuit_kind, offsets_kind, line_kind, end_kind, circuits_most, lines_most}
+use Rattle.model.specs.Sizes.{head_size, counts_size, link_size, hop_size, line_size, network_kind, circuit_kind, offsets_kind, line_kind, end_kind, circuits_most, lines_most, request_file, assignment_file, table_file}
 use Rattle.model.specs.Tests.{joined, up_to}
 use Rattle.model.specs.Bytes.{AreBytes, byte_at, word_at, length_at, kind_at, behind, word, record_of}
 use Rattle.model.specs.Network.{Network, Request}
@@ -20,8 +20,6 @@ use Rattle.model.proofs.Tests.{same, length-up_to, map-up_to}
 use Rattle.model.proofs.Records.{Ends, step_says, Comes, walk_comes, step_in, passes_at}
 use Rattle.model.proofs.Written.{length_pieces, file_of}
 use Rattle.model.proofs.Readers.{network_tests_lem, circuit_tests_lem, early, offsets_tests_lem, line_tests_lem, walked_by}
-use Rattle.model.specs.declared.File.{File}
-use Rattle.model.specs.declared.File.TheVariants.{Request as RequestFile, Assignment as AssignmentFile, Table as TableFile}
 
 -- ---- the bytes of a file from a place on
 
@@ -120,7 +118,7 @@ module _ (s : List ℕ) where
             ∙ ap (λ l. record_of kind (body (read x)) ++ l) (chain l last (get_or (l ++ (last ∷ [])) 0 0) refl (λ n k. h (suc n) (suc-le-suc k)))
             ∙ sym (append_assoc (record_of kind (body (read x))) _ _)
 
-        pub file_here : (file : File) (k start : ℕ) → damage file (walk k (step_in kind before_end verdict s) [] start) ≡ none
+        pub file_here : (file : ℕ) (k start : ℕ) → damage file (walk k (step_in kind before_end verdict s) [] start) ≡ none
             → drop start s ≡ file_of kind body (map read (starts (walk k (step_in kind before_end verdict s) [] start)))
         file_here file k start e = go (walk k (step_in kind before_end verdict s) [] start) e (walk_comes (step_in kind before_end verdict s) k start _ refl)
           where
@@ -155,9 +153,9 @@ module _ (net : Network) (s : List ℕ) (bytes : AreBytes s) where
       (from_word s bytes (p + 8) (p + 10) (omega arith) (omega arith)
       ∙ ap (λ l. word (word_at s (p + 8)) ++ l) (from_word s bytes (p + 10) (behind s p) (omega arith) (omega arith)))))
 
-  pub table_encoded : damage TableFile (table_walk net s) ≡ none → s ≡ table_bytes (table net s)
+  pub table_encoded : damage table_file (table_walk net s) ≡ none → s ≡ table_bytes (table net s)
   unfolding table_walk table_step table table_bytes
-  table_encoded e = file_here s bytes line_kind line_body (λ n. false) (line_verdict net s) (line_at s) line_here TableFile (suc lines_most) 0 e
+  table_encoded e = file_here s bytes line_kind line_body (λ n. false) (line_verdict net s) (line_at s) line_here table_file (suc lines_most) 0 e
 
 -- ---- the assignment
 
@@ -171,7 +169,7 @@ module _ (q : Request) (s : List ℕ) (bytes : AreBytes s) where
 
   pub assignment_encoded : assignment_fault q s ≡ none → s ≡ assignment_bytes (assignment q s)
   unfolding assignment_walk assignment_step assignment assignment_bytes
-  assignment_encoded e = file_here s bytes offsets_kind (λ x. x) (early q s) (offsets_verdict q s) (offsets_at s) offsets_here AssignmentFile (suc circuits_most) 0 e
+  assignment_encoded e = file_here s bytes offsets_kind (λ x. x) (early q s) (offsets_verdict q s) (offsets_at s) offsets_here assignment_file (suc circuits_most) 0 e
 
 -- ---- the request
 
@@ -236,13 +234,13 @@ module _ (s : List ℕ) (bytes : AreBytes s) where
       ∙ ap₂ (λ n l. word n ++ l) (sym many)
       (links_here (omega arith) ∙ ap (λ q. joined (map link_bytes (up_to (buffers_of s) (link_at s))) ++ drop q s) next)))
 
-  encoded_by : (v : Verdict) → network_verdict s ≡ v → damage RequestFile (walked_by s v) ≡ none
+  encoded_by : (v : Verdict) → network_verdict s ≡ v → damage request_file (walked_by s v) ≡ none
       → s ≡ record_of network_kind (network_bytes (request s).network) ++ file_of circuit_kind circuit_bytes (map (circuit_at s) (starts (walked_by s v)))
   unfolding request_step
   encoded_by (Ok u) fine e =
       network_here fine
       ∙ ap (λ l. record_of network_kind (network_bytes (request s).network) ++ l)
-      (file_here s bytes circuit_kind circuit_bytes (λ n. false) (circuit_verdict s) (circuit_at s) circuit_here RequestFile (suc circuits_most) (behind s 0) e)
+      (file_here s bytes circuit_kind circuit_bytes (λ n. false) (circuit_verdict s) (circuit_at s) circuit_here request_file (suc circuits_most) (behind s 0) e)
   encoded_by (Err f) fine e = absurd (none-ne-some _ (sym e))
 
   walk_is : request_walk s ≡ walked_by s (network_verdict s)

@@ -6,7 +6,7 @@ use mathlib.Core.Logic.{◌↔◌}
 use mathlib.Core.List.{List}
 use mathlib.Core.Option.{none}
 use lib.ListN.{length}
-use Rattle.model.specs.Sizes.{buffers_most}
+use Rattle.model.specs.Sizes.{buffers_most, table_file}
 use Rattle.model.specs.Bytes.{AreBytes}
 use Rattle.model.specs.Network.{Network, Request}
 use Rattle.model.specs.declared.Line.{Line}
@@ -18,7 +18,6 @@ use Rattle.model.proofs.Readers.{request_sound, offsets_sound, table_sound}
 use Rattle.model.proofs.Encoded.{request_encoded, assignment_encoded, table_encoded}
 use Rattle.model.proofs.Writes.{assignment_back, table_back}
 use Rattle.model.proofs.RequestBack.{request_back}
-use Rattle.model.specs.declared.File.TheVariants.{Table as TableFile}
 
 -- ---- the request
 
@@ -46,7 +45,7 @@ module _ (q : Request) (sound : SoundRequest q) where
 -- ---- the table over a network
 
 module _ (net : Network) (few : length net.links ≤ buffers_most) where
-  pub table_format : (s : List ℕ) → AreBytes s → (damage TableFile (table_walk net s) ≡ none) ↔ ((t : List Line) × SoundTable net t × (s ≡ table_bytes t))
+  pub table_format : (s : List ℕ) → AreBytes s → (damage table_file (table_walk net s) ≡ none) ↔ ((t : List Line) × SoundTable net t × (s ≡ table_bytes t))
   table_format s bytes = (
     λ e. (table net s, table_sound net s e, table_encoded net s bytes e),
     λ r. rw r.2 (table_back net r.0 few r.1).0,

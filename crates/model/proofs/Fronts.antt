@@ -14,7 +14,7 @@ use lib.ListN.{length, take, length-append, length-take}
 use lib.Seq.{take_all, get_or-take}
 use Rattle.std.specs.declared.option.Option.TheVariants.{Some, None}
 use Rattle.std.specs.declared.result.Result.TheVariants.{Ok, Err}
-use Rattle.model.specs.Sizes.{request_most, assignment_most, table_most, head_size, counts_size, link_size, hop_size, line_size, buffers_most, circuits_most, hops_most, cycle_most, lines_most, circuit_kind, offsets_kind, line_kind}
+use Rattle.model.specs.Sizes.{request_most, assignment_most, table_most, head_size, counts_size, link_size, hop_size, line_size, buffers_most, circuits_most, hops_most, cycle_most, lines_most, circuit_kind, offsets_kind, line_kind, request_file, assignment_file, table_file}
 use Rattle.model.specs.Tests.{◌and◌, neg, some?, ◌else◌, or_else}
 use Rattle.model.specs.Bytes.{byte_at, word_at, length_at, kind_at, behind}
 use Rattle.model.specs.Network.{Network, Request, circuit_of}
@@ -30,7 +30,6 @@ use Rattle.model.specs.declared.Fault.{Fault}
 use Rattle.model.proofs.Tests.{same, some_same, some-false, else_none}
 use Rattle.model.proofs.Records.{passed, step_says, step_in, length_near}
 use Rattle.model.proofs.Readers.{network_tests, link_tests, network_tests_lem, circuit_tests, circuit_tests_lem, walked_by, request_sound, offsets_tests, rising_tests, early, offsets_tests_lem, line_tests, line_tests_lem}
-use Rattle.model.specs.declared.File.TheVariants.{Request as RequestFile, Assignment as AssignmentFile, Table as TableFile}
 
 -- ---- tests in order that agree
 
@@ -183,9 +182,9 @@ module _ (net : Network) where
     table_same =
         file_same line_kind (λ _. false) (line_verdict net s) (line_verdict net t) alike lines_most 0 line_size (omega arith) (small_line s) line_same 0 (omega arith)
 
-  pub table_short : (s : List ℕ) → damage TableFile (table_walk net s) ≡ none → length s ≤ table_most
+  pub table_short : (s : List ℕ) → damage table_file (table_walk net s) ≡ none → length s ≤ table_most
   unfolding table_walk
-  table_short s e = length_near line_kind (λ _. false) (line_verdict net s) s line_size (small_line s) TableFile lines_most 0 e
+  table_short s e = length_near line_kind (λ _. false) (line_verdict net s) s line_size (small_line s) table_file lines_most 0 e
 
 -- ---- assignments
 
@@ -240,7 +239,7 @@ module _ (q : Request) where
 
   pub assignment_short : (s : List ℕ) → assignment_fault q s ≡ none → length s ≤ assignment_most
   unfolding assignment_walk
-  assignment_short s e = length_near offsets_kind (early q s) (offsets_verdict q s) s cycle_most (small_offsets s) AssignmentFile circuits_most 0 e
+  assignment_short s e = length_near offsets_kind (early q s) (offsets_verdict q s) s cycle_most (small_offsets s) assignment_file circuits_most 0 e
 
 -- ---- requests
 
@@ -391,10 +390,10 @@ pub request_short : (s : List ℕ) → request_fault s ≡ none → length s ≤
 unfolding request_walk
 request_short s e = go (network_verdict s) refl e
   where
-    go : (v : Verdict) → network_verdict s ≡ v → damage RequestFile (walked_by s v) ≡ none → length s ≤ request_most
+    go : (v : Verdict) → network_verdict s ≡ v → damage request_file (walked_by s v) ≡ none → length s ≤ request_most
     go (Ok u) fine e =
         omega
-        (arith, small_network s fine, length_near circuit_kind (λ _. false) (circuit_verdict s) s circuit_body_most (small_circuit s) RequestFile circuits_most (behind s 0) e)
+        (arith, small_network s fine, length_near circuit_kind (λ _. false) (circuit_verdict s) s circuit_body_most (small_circuit s) request_file circuits_most (behind s 0) e)
     go (Err f) fine e = absurd (none-ne-some _ (sym e))
 
 -- ---- a file and its front
@@ -410,20 +409,20 @@ pub record StandsFor (fault : List ℕ → Option Answer) (t s : List ℕ) : Typ
 
 pub request_stands : (k : ℕ) → request_most < k → (s : List ℕ) → StandsFor request_fault (take k s) s
 request_stands k h s = record {
-  same = ap (damage RequestFile) (request_same (front_alike request_most k s h));
+  same = ap (damage request_file) (request_same (front_alike request_most k s h));
   whole = λ e. take_all k s (omega (arith, request_short s e));
 }
 
 pub assignment_stands : (k : ℕ) → assignment_most < k → (q : Request) → length q.circuits ≤ circuits_most → (s : List ℕ)
     → StandsFor (assignment_fault q) (take k s) s
 assignment_stands k h q few s = record {
-  same = ap (damage AssignmentFile) (assignment_same q (front_alike assignment_most k s h) few);
+  same = ap (damage assignment_file) (assignment_same q (front_alike assignment_most k s h) few);
   whole = λ e. take_all k s (omega (arith, assignment_short q s e));
 }
 
 pub table_stands : (k : ℕ) → table_most < k → (q : Request) (s : List ℕ) → StandsFor (table_fault q) (take k s) s
 table_stands k h q s = record {
-  same = ap (damage TableFile) (table_same q.network (front_alike table_most k s h));
+  same = ap (damage table_file) (table_same q.network (front_alike table_most k s h));
   whole = λ e. take_all k s (omega (arith, table_short q.network s e));
 }
 

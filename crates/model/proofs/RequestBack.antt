@@ -8,7 +8,7 @@ use native.Mathlib.Omega.{arith}
 use lib.ListN.{length}
 use lib.Dec.{eqb, eqb→eq}
 use borrow.Author.Tests.{le-ltb, lt-leb, eq-eqb, ne_eqb}
-use Rattle.model.specs.Sizes.{routers_most, buffers_most, circuits_most, cycle_most, hops_most, head_size, network_kind, circuit_kind, counts_size, link_size, hop_size, word_end}
+use Rattle.model.specs.Sizes.{routers_most, buffers_most, circuits_most, cycle_most, hops_most, head_size, network_kind, circuit_kind, counts_size, link_size, hop_size, word_end, request_file}
 use Rattle.model.specs.Tests.{neg, up_to}
 use Rattle.model.specs.Bytes.{byte_at, word, record_of}
 use Rattle.model.specs.Network.{Network, Circuit, Request, no_link, no_circuit, link_of, circuit_of, from_router, to_router, hops, hop}
@@ -18,7 +18,6 @@ use Rattle.model.specs.Jobs.{link_bytes, network_bytes, circuit_bytes, request_b
 use Rattle.model.specs.Sound.{SoundPath, SoundRequest}
 use Rattle.model.proofs.Tests.{and→, no_false, some-none, up_to_back}
 use Rattle.model.proofs.Written.{word_back, length_record, RecordAt, byte_in, word_in, length_in, kind_in, room_in, length_pieces, piece_in, file_of, Good, walk-behind}
-use Rattle.model.specs.declared.File.TheVariants.{Request as RequestFile}
 
 -- ---- the tests of a record's numbers
 
@@ -207,10 +206,10 @@ module _ (q : Request) (sound : SoundRequest q) (s : List ℕ) (file : s ≡ rec
       ap (λ v. go_on (onward s 0 v) [] circuits_from) (network_fine q sound s net)
       ∙ ap circuits_from (omega (arith, length_in net (network_short q sound s net), length_record network_kind (network_bytes q.network)))
 
-  circuits_back : (damage RequestFile (circuits_from begin) ≡ none) × (map (circuit_at s) (starts (circuits_from begin)) ≡ q.circuits)
+  circuits_back : (damage request_file (circuits_from begin) ≡ none) × (map (circuit_at s) (starts (circuits_from begin)) ≡ q.circuits)
   unfolding request_step
   circuits_back =
-      walk-behind circuit_kind circuit_bytes s (circuit_verdict s) (circuit_at s) (λ n. false) no_circuit (omega arith) (λ e. omega arith) RequestFile circuits_most
+      walk-behind circuit_kind circuit_bytes s (circuit_verdict s) (circuit_at s) (λ n. false) no_circuit (omega arith) (λ e. omega arith) request_file circuits_most
       (record_of network_kind (network_bytes q.network)) q.circuits file sound.circuits
       (λ n h. circuit_good q sound s net (circuit_of q n) (sound.path n h) n (omega (arith, sound.circuits)))
       refl

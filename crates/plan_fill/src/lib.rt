@@ -6,10 +6,10 @@ ghost use Rattle.file_parts.specs.Records.{asked, recorded};
 ghost use Rattle.plan.specs.Plan.{shown, Stands};
 ghost use Rattle.plan_fill.specs.Loading.{planned_by};
 
-use arrayvec::ArrayVec;
 use file_parts::{CircuitRecord, Request};
 use model::{BUFFERS_MOST, LOCAL, Send, Use};
 use plan::{Circuit, Plan};
+use plan_list::List;
 
 // A circuit by its record: its numbers, and then at each hop what it uses and what its router sends.
 fn circuit(source: &CircuitRecord) -> Circuit
@@ -17,8 +17,8 @@ fn circuit(source: &CircuitRecord) -> Circuit
 {
     let cycle = source.cycle();
     let demand = source.demand();
-    let mut uses = ArrayVec::new();
-    let mut sends = ArrayVec::new();
+    let mut uses = List::new();
+    let mut sends = List::new();
     let first = source.hop(0);
     let owner = source.request.owner(first);
     uses.push(Use {

@@ -1,19 +1,22 @@
 -- What is held of a request and an assignment that were loaded. Assumes nothing.
 use Prim.Native.Nat.{ℕ}
-use mathlib.Core.Path.{◌≡◌, refl, sym, ◌∙◌}
+use mathlib.Core.Path.{◌≡◌, refl, sym, ap, ◌∙◌}
 use mathlib.Core.List.{List}
 use mathlib.Core.Option.{none, some}
 use native.Mathlib.Omega.{arith}
 use lib.ListN.{length}
-use Rattle.std.specs.Result.{IsErrAnd}
+use Rattle.std.specs.Result.{IfErr, IsErrAnd}
+use Rattle.std.specs.declared.result.Result.{Result}
 use Rattle.std.specs.declared.result.Result.TheVariants.{Ok, Err}
 use Rattle.arrayvec.specs.ArrayVec.{ArrayVec}
 use Rattle.model.specs.Tests.{◌else◌}
 use Rattle.model.specs.Network.{Request}
-use Rattle.model.specs.Reading.{request_walk, request, assignment_walk}
+use Rattle.model.specs.Reading.{Walked, stopped, request_walk, request, assignment_walk}
+use Rattle.model.specs.Answers.{damage}
 use Rattle.model.specs.Jobs.{request_fault, assignment_fault}
 use Rattle.model.specs.declared.Damage.{Damage}
 use Rattle.model.specs.declared.Answer.{Answer}
+use Rattle.model.specs.declared.Answer.TheVariants.{Damaged}
 use Rattle.model.proofs.Readers.{request_sound, request_byte_fits, assignment_byte_fits}
 use Rattle.file_records.specs.Walks.{places_of}
 use Rattle.file_records.proofs.Endings.{places-stopped}
@@ -24,7 +27,7 @@ use Rattle.plan.proofs.Laws.{cycle_is}
 use Rattle.plan_refusal.proofs.Firsts.{handed_on}
 use Rattle.plan_refusal.specs.Found.{Tested, found}
 use Rattle.plan_masks.specs.Masks.{Risings, MasksOf}
-use Rattle.plan_load.specs.Loaded.{ByteFits, LoadsBoth}
+use Rattle.plan_load.specs.Loaded.{ByteFits, damage_of, LoadsBoth}
 use Rattle.plan_load.proofs.Offsets.{rising_of, taken_of, below_of}
 
 -- the byte of a file that was read and has a fault
@@ -33,6 +36,26 @@ request_fits s d e = record { small = request_byte_fits s d.fault d.byte (places
 
 pub assignment_fits : (q : Request) (s : List ℕ) (d : Damage) → Err d ≡ places_of (assignment_walk q s) → ByteFits d
 assignment_fits q s d e = record { small = assignment_byte_fits q s d.fault d.byte (places-stopped (assignment_walk q s) d e) }
+
+-- ---- what is told of a file that was read
+
+pub fits_by : {T : Type 0} (read : Result T Damage) → ((d : Damage) → read ≡ Err d → ByteFits d) → IfErr read ByteFits
+fits_by (Ok v) fits = tt
+fits_by (Err d) fits = fits d refl
+
+-- the walk over the file with the number n ends where its reading does, and that is told
+pub told_by : {T : Type 0} (file n : ℕ) → n ≡ file → (w : Walked) (read : Result T Damage) → ((d : Damage) → read ≡ Err d → w ≡ stopped d.fault d.byte)
+    → (a : Answer) → Err a ≡ damage_of n read → damage file w ≡ some a
+told_by file n number w (Ok v) stops a h = absurd cc
+told_by file n number w (Err d) stops a h =
+    let z : Err a ≡ damage_of n (Err d) = h in
+    let s : a ≡ Damaged n d.fault d.byte = cc in
+    ap (damage file) (stops d refl) ∙ ap (λ (m : ℕ). some (Damaged m d.fault d.byte)) (sym number) ∙ ap some (sym s)
+
+-- what was read of a whole file is handed on
+pub whole_by : {T : Type 0} (n : ℕ) (read : Result T Damage) (v : T) → Ok v ≡ damage_of n read → Ok v ≡ read
+whole_by n (Ok u) v e = let s : v ≡ u = cc in ap Ok s
+whole_by n (Err d) v e = absurd cc
 
 -- ---- both files
 

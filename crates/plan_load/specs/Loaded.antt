@@ -8,6 +8,7 @@ use Rattle.model.specs.Reading.{request, assignment}
 use Rattle.model.specs.Jobs.{request_fault, assignment_fault}
 use Rattle.model.specs.declared.Damage.{Damage}
 use Rattle.model.specs.declared.Answer.{Answer}
+use Rattle.model.specs.declared.Answer.TheVariants.{Damaged}
 use Rattle.file_parts.specs.Parts.{Starts}
 use Rattle.plan.specs.declared.Circuit.{Circuit}
 use Rattle.plan.specs.Plan.{Stands, Booked, Slotted}
@@ -16,6 +17,11 @@ use Rattle.plan_refusal.specs.Found.{Tested, found}
 -- the byte that it names fits 32 bits
 pub record ByteFits (d : Damage) : Type 0 where
   pub small : d.byte < detail_end
+
+-- what is told of the file with this number, whose reading ended so
+abbrev pub damage_of : {T : Type 0} → ℕ → Result T Damage → Result T Answer
+damage_of file (Ok read) = Ok read
+damage_of file (Err d) = Err (Damaged file d.fault d.byte)
 
 -- the request file req was read: r tells its fault, or where its circuits' records start, and then the plan stands for it
 abbrev pub Opens : (req : List ℕ) (p : ArrayVec Circuit) (r : Result (ArrayVec ℕ) Answer) → Type 0

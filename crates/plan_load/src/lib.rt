@@ -1,9 +1,8 @@
 // Files put into a plan and its masks, and how a file that has a fault is refused. Assumes nothing.
 #![tactic(auto)]
 
-ghost use Rattle.std.specs.Prelude.{◌≡◌};
-ghost use Rattle.model.specs.declared.Answer.TheVariants.{Damaged};
-ghost use Rattle.plan_load.specs.Loaded.{ByteFits, Opens, Loads, LoadsBoth};
+ghost use Rattle.std.specs.Prelude.{◌≡◌, IfErr};
+ghost use Rattle.plan_load.specs.Loaded.{ByteFits, damage_of, Opens, Loads, LoadsBoth};
 
 use file_parts::Request;
 use file_records::Places;
@@ -11,15 +10,18 @@ use model::{Answer, Damage, File};
 use plan::{Masks, Plan};
 use plan_refusal::Tested;
 
-// How a file with this damage is refused.
-pub fn damaged(file: File, damage: Damage) -> Answer
-    requires { ByteFits damage }
-    ensures { result ≡ Damaged file damage.fault damage.byte }
+// How the file with this number is refused where its reading found damage.
+pub fn damaged<T>(file: u32, read: Result<T, Damage>) -> Result<T, Answer>
+    requires { IfErr read ByteFits }
+    ensures { result ≡ damage_of file read }
 {
-    Answer::Damaged {
-        file,
-        fault: damage.fault,
-        byte: damage.byte as u32,
+    match read {
+        Ok(found) => Ok(found),
+        Err(damage) => Err(Answer::Damaged {
+            file,
+            fault: damage.fault,
+            byte: damage.byte as u32,
+        }),
     }
 }
 
@@ -27,7 +29,7 @@ pub fn damaged(file: File, damage: Damage) -> Answer
 fn open(request: &[u8], plan: &mut Plan) -> Result<Places, Answer>
     ensures { Opens request.now plan.new result }
 {
-    let starts = file_request::read(request).map_err(|damage| damaged(File::Request, damage))?;
+    let starts = damaged(File::Request.into(), file_request::read(request))?;
     let read = Request {
         file: request,
         starts: &starts,
@@ -54,7 +56,7 @@ pub fn load_both(request: &[u8], assignment: &[u8], plan: &mut Plan, masks: &mut
         starts: &starts,
     };
     let records = file_assignment::read(&read, assignment);
-    let booked = records.map_err(|damage| damaged(File::Assignment, damage))?;
+    let booked = damaged(File::Assignment.into(), records)?;
     plan_masks::fill(assignment, &booked, masks);
     Ok(())
 }

@@ -27,9 +27,10 @@ fn barred(bad: u32, g: Cycle, d: Cycle, b: usize) -> u32
     let mut acc = 0u32;
     for a in 0..d.slots {
         let x = num_cyclic::difference(g, a, b);
-        if num_mask::has(bad, x as u32) {
-            acc = num_mask::with(acc, a as u32);
+        if !num_mask::has(bad, x as u32) {
+            continue;
         }
+        acc = num_mask::with(acc, a as u32);
     }
     acc
 }

@@ -12,7 +12,7 @@ use Rattle.model.specs.Holding.{clash_fault}
 use Rattle.model.specs.Lines.{lines_fault}
 use Rattle.model.specs.Reading.{request, assignment, table_walk, table}
 use Rattle.model.specs.Jobs.{check_tables, request_fault, assignment_fault, table_fault}
-use Rattle.model.specs.declared.File.TheVariants.{Table as TableFile}
+use Rattle.model.specs.Sizes.{table_file}
 use Rattle.model.specs.declared.Damage.{Damage}
 use Rattle.model.specs.declared.Answer.{Answer}
 use Rattle.model.specs.declared.Answer.TheVariants.{Done}
@@ -63,7 +63,7 @@ module _ (req asg tab : List ℕ) where
       facts : Facts (request req) (assignment (request req) asg) p m tab lines
       facts = record {
         booked = g.booked refl;
-        whole = ap (damage TableFile) (count-whole (table_walk (request req).network tab) lines read).1;
+        whole = ap (damage table_file) (count-whole (table_walk (request req).network tab) lines read).1;
         lined = lines_are (request req).network tab lines read;
       }
 

@@ -17,9 +17,9 @@ use plan_refusal::Tested;
 pub fn read_request(request: &[u8]) -> Answer
     ensures { Contract (read request.now) result [] }
 {
-    match file_request::read(request) {
+    match damaged(File::Request.into(), file_request::read(request)) {
         Ok(_) => Answer::Done,
-        Err(damage) => damaged(File::Request, damage),
+        Err(refusal) => refusal,
     }
 }
 
@@ -78,7 +78,7 @@ fn table_tested(request: &[u8], assignment: &[u8], table: &[u8]) -> Tested
     let mut plan = Plan::new();
     let mut masks = [0u32; CIRCUITS_MOST];
     load_both(request, assignment, &mut plan, &mut masks)?;
-    let lines = file_table::read(request, table).map_err(|damage| damaged(File::Table, damage))?;
+    let lines = damaged(File::Table.into(), file_table::read(request, table))?;
     let bookings = Bookings {
         plan: &plan,
         masks: &masks,

@@ -1,0 +1,2 @@
+-- The places of a list. Assumes nothing.
+pub mod Places
