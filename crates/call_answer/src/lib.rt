@@ -38,13 +38,7 @@ impl From<Answer> for Details {
             Answer::Done => Details::new(0, 0, 0, 0, 0),
             Answer::Made { bytes } => Details::new(0, bytes, 0, 0, 0),
             Answer::Allocated { visits, bytes } => Details::new(0, visits, bytes, 0, 0),
-            Answer::Damaged { file, fault, byte } => Details::new(
-                fault.into(),
-                file.into(),
-                byte,
-                0,
-                0,
-            ),
+            Answer::Damaged { file, fault, byte } => Details::new(fault.into(), file, byte, 0, 0),
             Answer::NoRoom { visits } => Details::new(10, visits, 0, 0, 0),
             Answer::Unfinished { visits } => Details::new(11, visits, 0, 0, 0),
             Answer::Clash {

@@ -2,8 +2,8 @@
 // records start, or its fault. Assumes nothing.
 #![tactic(auto)]
 
-ghost use Rattle.std.specs.Prelude.{◌≡◌, ◌≤◌, ◌<◌, length};
-ghost use Rattle.model.specs.Sizes.{word_end};
+ghost use Rattle.std.specs.Prelude.{◌≡◌, ◌+◌, ◌≤◌, ◌<◌, length};
+ghost use Rattle.model.specs.Sizes.{head_size, word_end};
 ghost use Rattle.model.specs.Bytes.{length_at};
 ghost use Rattle.model.specs.Reading.{have, bad_offset, offsets_verdict, assignment_step, assignment_walk};
 ghost use Rattle.file_records.specs.Walks.{places_of};
@@ -11,7 +11,7 @@ ghost use Rattle.file_parts.specs.Records.{asked, recorded};
 ghost use Rattle.file_assignment.specs.Parts.{offsets_numbers};
 
 use file_parts::{CircuitRecord, Request};
-use file_records::{Places, Record};
+use file_records::{Places, Record, byte_in};
 use model::{CYCLE_MOST, Damage, Fault, HEAD_SIZE, Kind};
 
 // The tests on the numbers of an offsets record, which is for this circuit.
@@ -35,11 +35,13 @@ fn offsets_head(circuit: &CircuitRecord, offsets: &Record) -> Result<(), Fault>
 // Offset i of the record is not below the cycle, or not above the offset before it.
 #[tactic(auto, using(file_records::proofs::Laws::tests), unfolding(model::specs::Reading::bad_offset))]
 fn bad_offset(offsets: &Record, cycle: usize, i: usize) -> bool
-    requires { i < word_end }
+    requires few { i < word_end }
+    requires room { offsets.now.start + head_size + i < length offsets.now.file.now }
     ensures { result ≡ bad_offset offsets.now.file.now offsets.now.start cycle i }
 {
-    let offset = offsets.byte(HEAD_SIZE + i);
-    cycle <= offset || (0 < i && offset <= offsets.byte(HEAD_SIZE + i - 1))
+    let at = offsets.start + HEAD_SIZE + i;
+    let offset = byte_in(offsets.file, at);
+    cycle <= usize::from(offset) || (0 < i && offset <= byte_in(offsets.file, at - 1))
 }
 
 // The verdict on an offsets record, behind k others.

@@ -4,12 +4,12 @@
 ghost use Rattle.std.specs.Prelude.{◌≡◌, ◌<◌, length};
 ghost use Rattle.model.specs.Sizes.{word_end};
 ghost use Rattle.model.specs.Bytes.{length_at, kind_at};
-ghost use Rattle.model.specs.Reading.{routers_of, buffers_of, bad_link, network_head, network_verdict};
+ghost use Rattle.model.specs.Reading.{routers_of, buffers_of, from_place, bad_link, network_head, network_verdict};
 
-use file_records::{link, word};
+use file_records::{byte_in, link, word};
 use model::{
-    BUFFERS_AT, BUFFERS_MOST, COUNTS_SIZE, Fault, HEAD_SIZE, KIND_AT, Kind, LINK_SIZE, ROUTERS_AT,
-    ROUTERS_MOST,
+    BUFFERS_AT, BUFFERS_MOST, COUNTS_SIZE, FROM_AT, Fault, HEAD_SIZE, KIND_AT, Kind, LINK_SIZE,
+    ROUTERS_AT, ROUTERS_MOST, TO_AT,
 };
 
 // The tests on the numbers of the network record.
@@ -45,14 +45,18 @@ fn network_head(s: &[u8]) -> Result<(), Fault>
 // Buffer b has an unknown router, leads back to its owner, or has the pair of an earlier buffer.
 #[tactic(auto, using(file_records::proofs::Laws::tests), unfolding(model::specs::Reading::bad_link))]
 fn bad_link(s: &[u8], routers: usize, b: usize) -> bool
-    requires { b < word_end }
+    requires few { b < word_end }
+    requires room { from_place b < length s.now }
     ensures { result ≡ bad_link s.now routers b }
 {
     let of_b = link(s, b);
     routers <= usize::from(of_b.from)
         || routers <= usize::from(of_b.to)
         || of_b.from == of_b.to
-        || (0..b).any(|a| link(s, a).from == of_b.from && link(s, a).to == of_b.to)
+        || (0..b).any(|a| {
+            byte_in(s, FROM_AT + LINK_SIZE * a) == of_b.from
+                && byte_in(s, TO_AT + LINK_SIZE * a) == of_b.to
+        })
 }
 
 // The verdict on the network record, which starts at byte 0.

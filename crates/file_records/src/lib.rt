@@ -4,6 +4,7 @@
 
 ghost use Rattle.std.specs.Prelude.{◌≡◌, ℕ, suc, ◌+◌, ◌≤◌, ◌<◌, ◌^◌, [], length};
 ghost use Rattle.model.specs.Sizes.{circuits_most, word_end};
+ghost use Rattle.model.specs.Bytes.{byte_at};
 ghost use Rattle.model.specs.Reading.{link_at, line_at, path_place, have, Step, end_step, step_at, walk};
 ghost use Rattle.file_records.specs.Fields.{Byte, Word};
 ghost use Rattle.file_records.specs.Walks.{Walkable, Tells, Keepable, Walks, places_of, count_of};
@@ -22,6 +23,14 @@ pub fn byte(s: &[u8], i: usize) -> usize
     ensures { Byte s.now i result }
 {
     if i < s.len() { usize::from(s[i]) } else { 0 }
+}
+
+// The byte at i, where the file has one.
+pub fn byte_in(s: &[u8], i: usize) -> u8
+    requires { i < length s.now }
+    ensures { result ≡ byte_at s.now i }
+{
+    s[i]
 }
 
 // The number of the two bytes at i.

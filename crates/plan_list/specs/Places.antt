@@ -1,4 +1,4 @@
--- The places of a list are those in use, and blanks behind them. Assumes nothing.
+-- The laws that a copied list owes beside its type: its places are those in use, and blanks behind them. Assumes nothing.
 use Rattle.std.specs.Prelude.{◌≡◌, ℕ, ◌-◌, ◌≤◌, List, ◌++◌, length, take, drop, replicate}
 use Rattle.std.proofs.Common.{arith, length-take-le, take-append-drop}
 

@@ -1,7 +1,7 @@
 // A list of at most so many elements, which lie in the value itself and are copied with it. Assumes nothing.
 #![tactic(auto)]
 
-ghost use Rattle.std.specs.Prelude.{◌≡◌, ◌+◌, ◌^◌, ◌<◌, ◌≤◌, ◌==◌, [], ◌∷◌, ◌++◌, length};
+ghost use Rattle.std.specs.Prelude.{◌≡◌, ◌+◌, ◌^◌, ◌<◌, ◌≤◌, [], ◌∷◌, ◌++◌, length};
 ghost use Rattle.std.specs.Iterator.Runs.{EveryRun, ItemsMapTo};
 ghost use Rattle.std.specs.Slice.Iter.{iter_rest, iter_steps};
 ghost use Rattle.arrayvec.specs.ArrayVec.{array_vec_len};
@@ -68,15 +68,7 @@ impl<T: Blank, const CAP: usize> List<T, CAP> {
         ensures value { result ≡ array_vec_len self.now }
         ensures fits { result ≤ CAP }
     {
-        self.len
-    }
-
-    // Whether there is none.
-    #[inline]
-    pub fn is_empty(&self) -> bool
-        ensures { result ≡ (array_vec_len self.now == 0) }
-    {
-        self.len == 0
+        self.as_slice().len()
     }
 
     // The elements.

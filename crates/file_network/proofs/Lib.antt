@@ -1,0 +1,2 @@
+-- What the proofs about the network record share. Assumes nothing.
+mod Room
